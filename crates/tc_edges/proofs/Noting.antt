@@ -7,7 +7,7 @@ use Rattle.std.proofs.lemmas.Bool.{eq-eqb, ne_eqb, eqb-true, lt-ltb, le-ltb, ltb
 use Rattle.tc_graph.specs.declared.node.Node.{Node}
 use Rattle.tc_graph.specs.Nodes.{node_at}
 use Rattle.tc_edges.specs.declared.edges.Spelling.{Spelling}
-use Rattle.tc_edges.specs.Edges.{spelled_before, spelled_by, spellings, noted, IsBlank}
+use Rattle.tc_edges.specs.Edges.{spelled_before, spelled_by, spellings, noted_at, IsBlank}
 use Rattle.std.proofs.lemmas.List.FromFn.{length-map-range_with_len, get_or-map-range_with_len}
 
 abbrev found : ℕ → ℕ → Option Spelling
@@ -18,25 +18,25 @@ none-at : (b : Bool) (old : Option Spelling) → cond b old old ≡ old
 none-at true old = refl
 none-at false old = refl
 
-pub noted-none : (i k : ℕ) (old : Option Spelling) (j : ℕ) → noted i k [] old j ≡ old
+pub noted-none : (i k : ℕ) (old : Option Spelling) (j : ℕ) → noted_at i k [] old j ≡ old
 noted-none i k old j = none-at (nat_lt i j) old
 
-hit : (i k j : ℕ) (rest : List ℕ) (old : Option Spelling) → i < j → noted i k (j ∷ rest) old j ≡ found i k
+hit : (i k j : ℕ) (rest : List ℕ) (old : Option Spelling) → i < j → noted_at i k (j ∷ rest) old j ≡ found i k
 hit i k j rest old lt = rw (lt-ltb i j lt, eq-eqb j j refl) refl
 
 miss : (i k e j : ℕ) (rest : List ℕ) (old : Option Spelling) → (e ≡ j → ⊥)
-    → noted i k (e ∷ rest) old j ≡ noted i (k + 1) rest old j
+    → noted_at i k (e ∷ rest) old j ≡ noted_at i (k + 1) rest old j
 miss i k e j rest old other = rw (ne_eqb e j other) refl
 
-low : (i k j : ℕ) (es : List ℕ) (old : Option Spelling) → j ≤ i → noted i k es old j ≡ old
+low : (i k j : ℕ) (es : List ℕ) (old : Option Spelling) → j ≤ i → noted_at i k es old j ≡ old
 low i k j es old le = rw (le-ltb i j le) refl
 
 stored-at : (b : Bool) (i k e j : ℕ) (rest : List ℕ) (old : Option Spelling) (t : List (Option Spelling))
-    → nat_eq e j ≡ b → e < length t → i < e → get_or t j None ≡ noted i (k + 1) rest old j
-    → get_or (set t e (found i k)) j None ≡ noted i k (e ∷ rest) old j
+    → nat_eq e j ≡ b → e < length t → i < e → get_or t j None ≡ noted_at i (k + 1) rest old j
+    → get_or (set t e (found i k)) j None ≡ noted_at i k (e ∷ rest) old j
 stored-at true i k e j rest old t is inside lt so_far =
     let same : e ≡ j = eqb-true e j is in
-    subst (λ (x : ℕ). get_or (set t e (found i k)) x None ≡ noted i k (e ∷ rest) old x) same
+    subst (λ (x : ℕ). get_or (set t e (found i k)) x None ≡ noted_at i k (e ∷ rest) old x) same
     (get_or-set_same t e (found i k) None inside ∙ sym (hit i k e rest old lt))
 stored-at false i k e j rest old t is inside lt so_far =
     let other : e ≡ j → ⊥ = λ h. true≢false (sym (eq-eqb e j h) ∙ is) in
@@ -44,12 +44,12 @@ stored-at false i k e j rest old t is inside lt so_far =
 
 -- an edge to a node behind is noted
 pub stored : (i k e j : ℕ) (rest : List ℕ) (old : Option Spelling) (t : List (Option Spelling))
-    → e < length t → i < e → get_or t j None ≡ noted i (k + 1) rest old j
-    → get_or (set t e (found i k)) j None ≡ noted i k (e ∷ rest) old j
+    → e < length t → i < e → get_or t j None ≡ noted_at i (k + 1) rest old j
+    → get_or (set t e (found i k)) j None ≡ noted_at i k (e ∷ rest) old j
 stored i k e j rest old t = stored-at (nat_eq e j) i k e j rest old t refl
 
 skipped-at : (b : Bool) (i k e j : ℕ) (rest : List ℕ) (old x : Option Spelling)
-    → nat_lt i j ≡ b → e ≤ i → x ≡ noted i (k + 1) rest old j → x ≡ noted i k (e ∷ rest) old j
+    → nat_lt i j ≡ b → e ≤ i → x ≡ noted_at i (k + 1) rest old j → x ≡ noted_at i k (e ∷ rest) old j
 skipped-at true i k e j rest old x is le so_far =
     let lt : i < j = ltb-true i j is in
     so_far ∙ sym (miss i k e j rest old (λ h. let no : ⊥ = omega (arith, lt, le, h) in no))
@@ -59,12 +59,12 @@ skipped-at false i k e j rest old x is le so_far =
 
 -- any other is not
 pub skipped : (i k e j : ℕ) (rest : List ℕ) (old x : Option Spelling)
-    → e ≤ i → x ≡ noted i (k + 1) rest old j → x ≡ noted i k (e ∷ rest) old j
+    → e ≤ i → x ≡ noted_at i (k + 1) rest old j → x ≡ noted_at i k (e ∷ rest) old j
 skipped i k e j rest old x = skipped-at (nat_lt i j) i k e j rest old x refl
 
 grown-at : (b : Bool) (g : List Node) (i j : ℕ) (old : Option Spelling) → nat_lt i j ≡ b
     → old ≡ spelled_before g j (min i j)
-    → noted i 0 (node_at g i).edges old j ≡ spelled_before g j (min (i + 1) j)
+    → noted_at i 0 (node_at g i).edges old j ≡ spelled_before g j (min (i + 1) j)
 unfolding spelled_before
 grown-at true g i j old is so_far =
     let lt : i < j = ltb-true i j is in
@@ -78,7 +78,7 @@ grown-at false g i j old is so_far =
 
 -- the notes behind one node more
 pub grown : (g : List Node) (i j : ℕ) (old : Option Spelling) → old ≡ spelled_before g j (min i j)
-    → noted i 0 (node_at g i).edges old j ≡ spelled_before g j (min (i + 1) j)
+    → noted_at i 0 (node_at g i).edges old j ≡ spelled_before g j (min (i + 1) j)
 grown g i j old = grown-at (nat_lt i j) g i j old refl
 
 -- at the end

@@ -1,7 +1,7 @@
 -- Which edges of a graph are spelled as indirections (CORBA's chapter on the General Inter-ORB Protocol, "TypeCode").
--- Its nodes are in the order in which they are begun, and each but the first is spelled where an edge first leads to it:
--- that is of the nodes before it the last one that has an edge to it, and the first such edge of this. Any other edge is
--- an indirection.
+-- Its nodes are in the order in which they are begun, and each but the first is spelled where an edge first leads to
+-- it: that is of the nodes before it the last one that has an edge to it, and the first such edge of this. Any other
+-- edge is an indirection.
 use Rattle.std.specs.Prelude.{◌≡◌, ℕ, zero, suc, ◌+◌, ◌<◌, nat_eq, nat_lt, Bool, false, not, ◌&&◌, if◌then◌else◌, List, [], ◌∷◌}
 use Rattle.std.specs.Prelude.{length, map, slice_index, slice_index_or, Option, Some, None, option_map}
 use Rattle.std.specs.List.{range_with_len}
@@ -62,8 +62,8 @@ pub record IsBlank (table : List (Option Spelling)) : Type 0 where
   pub each : (j : ℕ) → slice_index_or table j None ≡ None
 
 -- what is noted for j behind the edges from number k on of the node at place i, besides what was
-abbrev pub noted : ℕ → ℕ → List ℕ → Option Spelling → ℕ → Option Spelling
-noted i k edges old j =
+abbrev pub noted_at : ℕ → ℕ → List ℕ → Option Spelling → ℕ → Option Spelling
+noted_at i k edges old j =
     if nat_lt i j then or_before
     (option_map (λ m. record { place = i; edge = m }) (first_to j k edges)) old else old
 
@@ -71,4 +71,4 @@ noted i k edges old j =
 pub record Notes (i : ℕ) (edges : List ℕ) (old new : List (Option Spelling)) : Type 0 where
   pub size : length new ≡ length old
   pub each : (j : ℕ) → j < length old
-      → slice_index_or new j None ≡ noted i 0 edges (slice_index_or old j None) j
+      → slice_index_or new j None ≡ noted_at i 0 edges (slice_index_or old j None) j

@@ -1,7 +1,7 @@
 -- Worked examples: which edges are indirections.
 use Rattle.std.specs.Prelude.{◌≡◌, true, false, List, [], ◌∷◌, codes}
 use Rattle.tc_graph.specs.declared.node.Node.{Node}
-use Rattle.tc_graph.specs.Examples.{rolled, unrolled}
+use Rattle.tc_graph.specs.Examples.{recursive_graph, unrolled_graph}
 use Rattle.tc_edges.specs.Edges.{is_indirection}
 
 -- ---- a struct of two members of one struct: the first edge to it spells it
@@ -27,14 +27,14 @@ outer_node = record {
   edges = 1 ∷ 1 ∷ [];
 }
 
-abbrev pub shared : List Node
-shared = outer_node ∷ inner_node ∷ long_node ∷ []
+abbrev pub shared_graph : List Node
+shared_graph = outer_node ∷ inner_node ∷ long_node ∷ []
 
 pub record WorkedEdges : Type 0 where
-  pub spelled : is_indirection rolled 0 0 ≡ false
-  pub back : is_indirection rolled 1 0 ≡ true
-  pub first : is_indirection shared 0 0 ≡ false
-  pub second : is_indirection shared 0 1 ≡ true
+  pub spelled : is_indirection recursive_graph 0 0 ≡ false
+  pub back : is_indirection recursive_graph 1 0 ≡ true
+  pub first : is_indirection shared_graph 0 0 ≡ false
+  pub second : is_indirection shared_graph 0 1 ≡ true
   -- unrolled once, only the last edge leads back
-  pub unrolled_spelled : is_indirection (unrolled 0) 2 0 ≡ false
-  pub unrolled_back : is_indirection (unrolled 0) 3 0 ≡ true
+  pub unrolled_spelled : is_indirection (unrolled_graph 0) 2 0 ≡ false
+  pub unrolled_back : is_indirection (unrolled_graph 0) 3 0 ≡ true

@@ -53,7 +53,7 @@ impl<'a> SpelledGraph<'a> {
     ///
     /// # Errors
     ///
-    /// For want of memory alone.
+    /// For running out of memory alone.
     pub fn new(alloc: Global, graph: &'a Whole) -> Result<SpelledGraph<'a>, AllocError>
         ensures value { IfOk result (λ s. s ≡ graph.now) }
         ensures some { IfOk result (λ _. 0 < length graph.now) }

@@ -12,7 +12,7 @@ use tc_graph::Whole;
 ///
 /// # Errors
 ///
-/// For want of memory alone.
+/// For running out of memory alone.
 pub(crate) fn spellings_of(
     alloc: Global,
     graph: &Whole,

@@ -6,7 +6,7 @@ use Rattle.tc_graph.specs.declared.node.Node.{Node}
 use Rattle.tc_graph.specs.Nodes.{blank, node_at, is_alias, edge}
 use Rattle.tc_graph.specs.Aliases.{IsInLoop}
 use Rattle.tc_graph.specs.Whole.{IsWhole}
-use Rattle.tc_graph.specs.Drafts.{Draft, with_node, first_outside, IsValidDraft, AllFilled}
+use Rattle.tc_graph.specs.Drafts.{GraphDraft, with_node, first_outside, IsValidDraft, AllFilled}
 
 pub none-outside : (n : ℕ) (es : List ℕ) → first_outside n es ≡ None → (k : ℕ) → k < length es → slice_index es k < n
 none-outside n [] e k l = absurd (omega (arith, l))
@@ -21,7 +21,7 @@ none-outside n (x ∷ es) e (suc k) l =
     (λ (ge : n ≤ x). absurd (let f : nat_lt x n ≡ false = le-ltb x n ge in let s : Some x ≡ None = rw f at e in let no : ⊥ = cc (s) in no))
     (cases_lt x n)
 
-pub draft-filled : (b : Draft) (p : ℕ) (x : Node) → IsValidDraft b → p < length b.nodes
+pub draft-filled : (b : GraphDraft) (p : ℕ) (x : Node) → IsValidDraft b → p < length b.nodes
     → ((k : ℕ) → k < length x.edges → edge x k < length b.nodes) → (is_alias x ≡ true → length x.edges ≡ 1)
     → IsValidDraft (with_node b p x)
 draft-filled b p x w l inside alias =
@@ -48,7 +48,7 @@ draft-filled b p x w l inside alias =
           (cases_eq i p);
     }
 
-pub whole-of : (b : Draft) → IsValidDraft b → 0 < length b.nodes → AllFilled b
+pub whole-of : (b : GraphDraft) → IsValidDraft b → 0 < length b.nodes → AllFilled b
     → ((i : ℕ) → i < length b.nodes → IsInLoop b.nodes i → ⊥) → IsWhole b.nodes
 whole-of b w some all none = record {
   some = some;

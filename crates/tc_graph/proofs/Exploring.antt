@@ -73,8 +73,8 @@ fewer (suc m) zero g i h j le a = absurd (omega (arith, le))
 fewer (suc m) (suc d) g i h j le a =
     (a.0, λ k l. fewer m d g (bare g (edge (node_at g i) k)) h (bare h (edge (node_at h j) k)) (omega (arith, le)) (a.1 k l))
 
--- The list has the roots, the pairs up to a place are justified, and the pair that came after k others is alike within m
--- edges if the roots are within m + k.
+-- The list has the roots, the pairs up to a place are justified, and the pair that came after k others is alike within
+-- m edges if the roots are within m + k.
 pub record Explored (g h : List Node) (ps : List Pair) (at : ℕ) : Type 0 where
   pub root : Has ps (bare g 0) (bare h 0)
   pub done : (k : ℕ) → k < at → Justified g h ps (pair_at ps k)

@@ -7,7 +7,7 @@ use Rattle.std.proofs.lemmas.List.{length-set, get_or_append_left, get_or-set_ot
 use Rattle.std.proofs.lemmas.List.Sums.{sum_by-set}
 use Rattle.std.proofs.lemmas.Nat.{same_from_place}
 use Rattle.tc_graph.specs.declared.pairs.Pair.{Pair}
-use Rattle.tc_graph.specs.Pairs.{no_pair, pair_at, Has, unmarked, IsMarked, IsPrefix}
+use Rattle.tc_graph.specs.Pairs.{no_pair, pair_at, Has, count_unmarked, IsMarked, IsPrefix}
 
 pub pushed-front : (ps : List Pair) (p : Pair) → IsPrefix ps (ps ++ p ∷ [])
 pushed-front ps p = record {
@@ -47,7 +47,7 @@ prefix-has ps qs i j l h = record {
 }
 
 unmarked-set : (cells : List Bool) (i : ℕ) → i < length cells → get_or cells i false ≡ false
-    → unmarked (set cells i true) + 1 ≡ unmarked cells
+    → count_unmarked (set cells i true) + 1 ≡ count_unmarked cells
 unmarked-set cells i h free =
     let e : count_by not (set cells i true) + cond (not (get_or cells i false)) 1 0 ≡ count_by not cells + 0 =
     sum_by-set (λ (b : Bool). cond (not b) 1 0) cells i true false h in

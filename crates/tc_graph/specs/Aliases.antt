@@ -14,10 +14,10 @@ abbrev pub bare : List Node → ℕ → ℕ
 bare g i = bare_within (length g) g i
 
 -- so many edges, each of an alias, lead from the first place to the second
-unfoldable pub Chain : ℕ → List Node → ℕ → ℕ → Type 0
-Chain zero g i j = i ≡ j
-Chain (suc n) g i j = (is_alias (node_at g i) ≡ true) × Chain n g (edge (node_at g i) 0) j
+unfoldable pub AliasChain : ℕ → List Node → ℕ → ℕ → Type 0
+AliasChain zero g i j = i ≡ j
+AliasChain (suc n) g i j = (is_alias (node_at g i) ≡ true) × AliasChain n g (edge (node_at g i) 0) j
 
 -- edges over aliases alone lead from the place back to it
 abbrev pub IsInLoop : List Node → ℕ → Type 0
-IsInLoop g p = (n : ℕ) × Chain (suc n) g p p
+IsInLoop g p = (n : ℕ) × AliasChain (suc n) g p p

@@ -4,7 +4,7 @@ use Rattle.tc_graph.specs.declared.node.Node.{Node}
 use Rattle.tc_graph.specs.declared.fault.GraphFault.TheVariants as fault
 use Rattle.tc_graph.specs.Nodes.{alias_kind, blank}
 use Rattle.tc_graph.specs.Aliases.{bare, IsInLoop}
-use Rattle.tc_graph.specs.Drafts.{Draft, fill_answer}
+use Rattle.tc_graph.specs.Drafts.{GraphDraft, fill_answer}
 use Rattle.tc_graph.specs.Sameness.{alike}
 
 -- ---- nodes
@@ -48,12 +48,12 @@ n_id = codes "IDL:N:1.0"
 -- ---- graphs
 
 -- struct N, whose one member is a sequence of N
-abbrev pub rolled : List Node
-rolled = struct_of n_id (codes "N") 1 ∷ sequence_of 0 0 ∷ []
+abbrev pub recursive_graph : List Node
+recursive_graph = struct_of n_id (codes "N") 1 ∷ sequence_of 0 0 ∷ []
 
 -- the same unrolled once, with a bound of the inner sequence
-abbrev pub unrolled : (bound : ℕ) → List Node
-unrolled bound = struct_of n_id (codes "N") 1 ∷ sequence_of 0 2 ∷ struct_of n_id (codes "O") 3
+abbrev pub unrolled_graph : (bound : ℕ) → List Node
+unrolled_graph bound = struct_of n_id (codes "N") 1 ∷ sequence_of 0 2 ∷ struct_of n_id (codes "O") 3
     ∷ sequence_of bound 0 ∷ []
 
 -- the same behind aliases
@@ -69,13 +69,13 @@ abbrev pub aliases_in_loop : List Node
 aliases_in_loop = alias_of 1 ∷ alias_of 2 ∷ alias_of 1 ∷ []
 
 pub record WorkedSameness : Type 0 where
-  pub itself : alike 4 rolled 0 rolled 0 ≡ true
-  pub once : alike 8 rolled 0 (unrolled 0) 0 ≡ true
-  pub turned : alike 8 (unrolled 0) 0 rolled 0 ≡ true
+  pub itself : alike 4 recursive_graph 0 recursive_graph 0 ≡ true
+  pub once : alike 8 recursive_graph 0 (unrolled_graph 0) 0 ≡ true
+  pub turned : alike 8 (unrolled_graph 0) 0 recursive_graph 0 ≡ true
   -- a bound at the fourth node counts from depth 4 on
-  pub shallow : alike 3 rolled 0 (unrolled 5) 0 ≡ true
-  pub deep : alike 4 rolled 0 (unrolled 5) 0 ≡ false
-  pub aliases : alike 8 rolled 0 behind_aliases 0 ≡ true
+  pub shallow : alike 3 recursive_graph 0 (unrolled_graph 5) 0 ≡ true
+  pub deep : alike 4 recursive_graph 0 (unrolled_graph 5) 0 ≡ false
+  pub aliases : alike 8 recursive_graph 0 behind_aliases 0 ≡ true
   -- an empty id agrees with two that differ
   pub no_id : alike 1 (objref n_id) 0 (objref []) 0 ≡ true
   pub no_id_turned : alike 1 (objref []) 0 (objref (codes "IDL:O:1.0")) 0 ≡ true
@@ -86,7 +86,7 @@ pub record WorkedSameness : Type 0 where
   pub count : alike 1 (enum_of (codes "A" ∷ []) ∷ []) 0 (enum_of (codes "A" ∷ codes "B" ∷ []) ∷ [])
       0 ≡ false
   -- a kind
-  pub kind : alike 1 rolled 0 (sequence_of 0 0 ∷ []) 0 ≡ false
+  pub kind : alike 1 recursive_graph 0 (sequence_of 0 0 ∷ []) 0 ≡ false
 
 pub record WorkedAliases : Type 0 where
   pub two : bare behind_aliases 1 ≡ 3
@@ -96,7 +96,7 @@ pub record WorkedAliases : Type 0 where
   pub second : IsInLoop aliases_in_loop 2
 
 -- the node at place 0 is filled, that at 1 isn't
-abbrev pub half : Draft
+abbrev pub half : GraphDraft
 half = record { nodes = sequence_of 0 0 ∷ blank 19 ∷ []; filled = true ∷ false ∷ [] }
 
 pub record WorkedFilling : Type 0 where

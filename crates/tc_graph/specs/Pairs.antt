@@ -23,8 +23,8 @@ pub record Has (ps : List Pair) (i j : ℕ) : Type 0 where
   pub left : (pair_at ps at).left ≡ i
   pub right : (pair_at ps at).right ≡ j
 
-abbrev pub unmarked : List Bool → ℕ
-unmarked cells = count_by not cells
+abbrev pub count_unmarked : List Bool → ℕ
+count_unmarked cells = count_by not cells
 
 -- a row of cells for each place on the left: each marked cell's pair is in the list, and each of its pairs has one
 pub record IsMarked (rows columns : ℕ) (cells : List Bool) (ps : List Pair) : Type 0 where
@@ -33,7 +33,7 @@ pub record IsMarked (rows columns : ℕ) (cells : List Bool) (ps : List Pair) : 
   pub rights : (k : ℕ) → k < length ps → (pair_at ps k).right < columns
   pub marked : (i j : ℕ) → i < rows → j < columns → slice_index_or cells (i * columns + j) false
       ≡ true → Has ps i j
-  pub room : length ps + unmarked cells ≡ rows * columns
+  pub room : length ps + count_unmarked cells ≡ rows * columns
 
 -- the pairs of a list come first in another
 pub record IsPrefix (ps qs : List Pair) : Type 0 where

@@ -5,7 +5,7 @@ use Rattle.tc_graph.specs.Nodes.{most_nodes, node_at, is_alias, edge}
 use Rattle.tc_graph.specs.Aliases.{IsInLoop}
 
 -- each edge leads to a node, and each alias has one edge
-pub record IsClosed (g : List Node) : Type 0 where
+pub record EdgesLeadInside (g : List Node) : Type 0 where
   pub few : length g ≤ most_nodes
   pub within : (i k : ℕ) → i < length g → k < length (node_at g i).edges → edge (node_at g i) k
       < length g
@@ -15,5 +15,5 @@ pub record IsClosed (g : List Node) : Type 0 where
 -- the node at place 0, the root, is there, and no aliases make a loop
 pub record IsWhole (g : List Node) : Type 0 where
   pub some : 0 < length g
-  pub closed : IsClosed g
+  pub closed : EdgesLeadInside g
   pub no_loops : (i : ℕ) → i < length g → IsInLoop g i → ⊥

@@ -2,7 +2,7 @@
 
 ghost use Rattle.std.specs.Prelude.{ℕ, ◌≡◌, ◌<◌, length, slice_index, IfOk, IfErr};
 ghost use Rattle.tc_graph.specs.Aliases.{bare};
-ghost use Rattle.tc_graph.specs.Whole.{IsClosed};
+ghost use Rattle.tc_graph.specs.Whole.{EdgesLeadInside};
 
 use crate::fault::GraphFault;
 use crate::node::Node;
@@ -13,7 +13,7 @@ pub const ALIAS: u32 = 21;
 
 /// The place after all aliases are removed.
 pub(crate) fn bare(nodes: &[Node], place: u32) -> u32
-    requires closed { IsClosed nodes.now }
+    requires closed { EdgesLeadInside nodes.now }
     requires within { place < length nodes.now }
     ensures value { result ≡ bare nodes.now place }
     ensures within { result < length nodes.now }
@@ -31,7 +31,7 @@ pub(crate) fn bare(nodes: &[Node], place: u32) -> u32
 
 /// Of each place the place after all aliases are removed, in two bytes.
 pub(crate) fn bare_places(alloc: Global, nodes: &[Node]) -> Result<Vec<u16>, GraphFault>
-    requires { IsClosed nodes.now }
+    requires { EdgesLeadInside nodes.now }
     ensures len { IfOk result (λ t. length t.items ≡ length nodes.now) }
     ensures each { IfOk result (λ t. (k : ℕ) → k < length nodes.now → slice_index t.items k
         ≡ bare nodes.now k) }

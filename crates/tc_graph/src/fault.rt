@@ -29,7 +29,7 @@ pub enum GraphFault {
     #[error("the graph has 4096 nodes")]
     Full,
 
-    /// Want of memory.
+    /// Out of memory.
     #[error("there is no memory left")]
     Memory,
 }

@@ -40,9 +40,9 @@ impl Drop for Graph {
 }
 
 impl Model for Graph {
-    ghost use Rattle.tc_graph.specs.Drafts.{Draft, IsValidDraft};
+    ghost use Rattle.tc_graph.specs.Drafts.{GraphDraft, IsValidDraft};
 
-    ghost Value = { Draft };
+    ghost Value = { GraphDraft };
 
     ghost view = { λ g. record { nodes = g.nodes.items; filled = g.filled.items } };
 
@@ -83,7 +83,7 @@ impl Graph {
     ///
     /// # Errors
     ///
-    /// `Memory` for want of memory alone.
+    /// `Memory` only when out of memory.
     pub fn new(alloc: Global) -> Result<Graph, GraphFault>
         ensures value { IfOk result (λ g. g ≡ empty) }
         ensures err { IfErr result (λ e. e ≡ GraphFault.Memory) }
@@ -108,7 +108,7 @@ impl Graph {
     ///
     /// # Errors
     ///
-    /// `Full` exactly where there are 4,096 nodes, and else `Memory` for want of memory alone. The graph
+    /// `Full` exactly where there are 4,096 nodes, and else `Memory` only when out of memory. The graph
     /// is then unchanged.
     pub fn start(&mut self, kind: u32) -> Result<u32, GraphFault>
         ensures place { IfOk result (λ place. place ≡ length self.old.nodes) }

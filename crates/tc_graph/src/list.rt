@@ -85,7 +85,7 @@ impl<T: Drop> List<T> {
     ///
     /// # Errors
     ///
-    /// `Memory` for want of memory alone; the list is then unchanged, and the element dropped.
+    /// `Memory` only when out of memory; the list is then unchanged, and the element dropped.
     pub fn push(&mut self, item: T) -> Result<(), GraphFault>
         ensures ok { OnOk result (self.new ≡ self.old ++ item ∷ []) }
         ensures err { OnErr result (self.new ≡ self.old) }
@@ -101,7 +101,7 @@ impl<T: Copy> List<T> {
     ///
     /// # Errors
     ///
-    /// `Memory` for want of memory alone.
+    /// `Memory` only when out of memory.
     pub fn from_slice(alloc: Global, items: &[T]) -> Result<List<T>, GraphFault>
         ensures value { IfOk result (λ l. l ≡ items.now) }
         ensures err { IfErr result (λ e. e ≡ GraphFault.Memory) }

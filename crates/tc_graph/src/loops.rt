@@ -3,14 +3,14 @@
 ghost use Rattle.std.specs.Prelude.{ℕ, ◌≡◌, ◌<◌, ◌↔◌, length, IsTrue, IfSome, IfNone};
 ghost use Rattle.tc_graph.specs.Aliases.{IsInLoop};
 ghost use Rattle.tc_graph.specs.Drafts.{IsLeast};
-ghost use Rattle.tc_graph.specs.Whole.{IsClosed};
+ghost use Rattle.tc_graph.specs.Whole.{EdgesLeadInside};
 
 use crate::aliases::ALIAS;
 use crate::node::Node;
 
 /// Whether edges over aliases alone lead from the place back to it.
 fn is_in_loop(nodes: &[Node], start: u32) -> bool
-    requires closed { IsClosed nodes.now }
+    requires closed { EdgesLeadInside nodes.now }
     requires within { start < length nodes.now }
     ensures { IsTrue result ↔ IsInLoop nodes.now start }
 {
@@ -30,7 +30,7 @@ fn is_in_loop(nodes: &[Node], start: u32) -> bool
 
 /// The least place in a loop of aliases.
 pub(crate) fn least_in_loop(nodes: &[Node]) -> Option<u32>
-    requires { IsClosed nodes.now }
+    requires { EdgesLeadInside nodes.now }
     ensures some { IfSome result (λ p. IsLeast (length nodes.now) (IsInLoop nodes.now) p) }
     ensures none { IfNone result ((i : ℕ) → i < length nodes.now → IsInLoop nodes.now i → ⊥) }
 {

@@ -67,7 +67,7 @@ impl Node {
     ///
     /// # Errors
     ///
-    /// `Memory` for want of memory alone.
+    /// `Memory` only when out of memory.
     pub fn copy(&self, alloc: Global) -> Result<Node, GraphFault>
         ensures value { IfOk result (λ twin. twin ≡ self.now) }
         ensures err { IfErr result (λ e. e ≡ GraphFault.Memory) }

@@ -44,7 +44,7 @@ impl Pairs {
     ///
     /// # Errors
     ///
-    /// `Memory` for want of memory alone.
+    /// `Memory` only when out of memory.
     pub(crate) fn new(alloc: Global, rows: usize, columns: usize) -> Result<Pairs, GraphFault>
         requires rows { rows ≤ most_nodes }
         requires columns { columns ≤ most_nodes }
@@ -83,7 +83,7 @@ impl Pairs {
     ///
     /// # Errors
     ///
-    /// `Memory` for want of memory alone.
+    /// `Memory` only when out of memory.
     pub(crate) fn insert(&mut self, pair: Pair) -> Result<(), GraphFault>
         requires left { pair.left < self.old.rows }
         requires right { pair.right < self.old.columns }

@@ -7,7 +7,7 @@
 ghost use Rattle.std.specs.Prelude.{ℕ, ◌≡◌, ◌<◌, ◌*◌, ◌↔◌, length, slice_index, IsTrue, IfOk, IfErr, OnOk};
 ghost use Rattle.tc_graph.specs.Pairs.{ends_of, AddsEnds};
 ghost use Rattle.tc_graph.specs.Sameness.{IdsAgree, Matches, Alike, Same};
-ghost use Rattle.tc_graph.specs.Whole.{IsClosed};
+ghost use Rattle.tc_graph.specs.Whole.{EdgesLeadInside};
 
 use crate::aliases::bare_places;
 use crate::fault::GraphFault;
@@ -81,9 +81,9 @@ fn add_ends(
 
 /// Whether the first nodes of two graphs are alike at every depth.
 pub(crate) fn same_nodes(alloc: Global, left: &[Node], right: &[Node]) -> Result<bool, GraphFault>
-    requires left { IsClosed left.now }
+    requires left { EdgesLeadInside left.now }
     requires left_some { 0 < length left.now }
-    requires right { IsClosed right.now }
+    requires right { EdgesLeadInside right.now }
     requires right_some { 0 < length right.now }
     ensures value { IfOk result (λ yes. IsTrue yes ↔ Same left.now right.now) }
     ensures depth { IfOk result

@@ -90,7 +90,7 @@ impl Whole {
     ///
     /// # Errors
     ///
-    /// `Memory` for want of memory alone.
+    /// `Memory` only when out of memory.
     pub fn copy(&self, alloc: Global) -> Result<Whole, GraphFault>
         ensures value { IfOk result (λ twin. twin ≡ self.now) }
         ensures err { IfErr result (λ e. e ≡ GraphFault.Memory) }
@@ -106,7 +106,7 @@ impl Whole {
     ///
     /// # Errors
     ///
-    /// `Memory` for want of memory alone.
+    /// `Memory` only when out of memory.
     pub fn same(&self, alloc: Global, other: &Whole) -> Result<bool, GraphFault>
         ensures value { IfOk result (λ yes. IsTrue yes ↔ Same self.now other.now) }
         ensures depth { IfOk result

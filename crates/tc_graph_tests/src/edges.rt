@@ -20,38 +20,38 @@ const EDGES: &str = "15 IDL:N:1.0 N,next - 1;19 - - 0 0|si
 3 - - - -|";
 
 /// Adds a letter for each edge of the node at a place.
-fn add_marks(graph: &SpelledGraph, place: u32, told: &mut Vec<u8>) -> Result<(), AllocError>
+fn add_marks(graph: &SpelledGraph, place: u32, content: &mut Vec<u8>) -> Result<(), AllocError>
     requires { place < length graph.now }
 {
     let count = graph.node(place).edges.len();
     for number in 0..count {
         let edge = graph.edge(place, number);
-        told.push(if edge.is_indirection { b'i' } else { b's' })?;
+        content.push(if edge.is_indirection { b'i' } else { b's' })?;
     }
     Ok(())
 }
 
 /// Whether the edges of the nodes are as they are told.
-fn are_told(alloc: Global, nodes: &str, marks: &str) -> Result<bool, GraphFault> {
+fn are_reported(alloc: Global, nodes: &str, marks: &str) -> Result<bool, GraphFault> {
     let graph = whole_of(alloc, nodes)?;
     let count = graph.len() as u32;
     let spelled = SpelledGraph::new(alloc, &graph)?;
-    let mut told = Vec::new(alloc);
+    let mut content = Vec::new(alloc);
     for place in 0..count {
-        add_marks(&spelled, place, &mut told)?;
+        add_marks(&spelled, place, &mut content)?;
     }
-    Ok(told.as_slice() == marks.as_bytes())
+    Ok(content.as_slice() == marks.as_bytes())
 }
 
-fn is_told(alloc: Global, line: &str) -> Result<bool, GraphFault> {
+fn is_content(alloc: Global, line: &str) -> Result<bool, GraphFault> {
     let (nodes, marks) = line.split_once('|').unwrap_or(("", ""));
-    are_told(alloc, nodes, marks)
+    are_reported(alloc, nodes, marks)
 }
 
 #[test]
 fn edges(rt: HostRuntime) {
     let alloc = rt.alloc();
     for line in EDGES.lines() {
-        assert!(rt; is_told(alloc, line) == Ok(true), "{line}");
+        assert!(rt; is_content(alloc, line) == Ok(true), "{line}");
     }
 }

@@ -43,7 +43,7 @@ fn fault_of(word: &str) -> GraphFault {
 }
 
 /// Whether an answer with or without a place is as it is told.
-fn is_told(answer: Result<Option<u32>, GraphFault>, word: &str) -> bool {
+fn is_content(answer: Result<Option<u32>, GraphFault>, word: &str) -> bool {
     match answer {
         Ok(None) => word == "ok",
         Ok(Some(place)) => word.parse::<u32>() == Ok(place),
@@ -67,7 +67,7 @@ fn after_finish(graph: Graph, word: &str) -> Result<Graph, bool> {
     match finish(graph) {
         Ok(_whole) => Err(word == "ok"),
         Err((graph, fault)) => {
-            if is_told(Err(fault), word) {
+            if is_content(Err(fault), word) {
                 Ok(graph)
             } else {
                 Err(false)
@@ -78,21 +78,21 @@ fn after_finish(graph: Graph, word: &str) -> Result<Graph, bool> {
 
 /// Whether each call answers as it is told, up to the `finish` that gives the whole graph, or to the last one.
 fn is_so(alloc: Global, line: &str) -> Result<bool, GraphFault> {
-    let (calls, told) = line.split_once(" => ").unwrap_or((line, ""));
-    let mut told = told.split(' ');
+    let (calls, content) = line.split_once(" => ").unwrap_or((line, ""));
+    let mut content = content.split(' ');
     let mut graph = Graph::new(alloc)?;
     for call in calls.split(';') {
-        let word = told.next().unwrap_or("");
+        let word = content.next().unwrap_or("");
         if call == "finish" {
             graph = match after_finish(graph, word) {
                 Ok(graph) => graph,
-                Err(so) => return Ok(so && told.next().is_none()),
+                Err(so) => return Ok(so && content.next().is_none()),
             };
-        } else if !is_told(answer(alloc, &mut graph, call), word) {
+        } else if !is_content(answer(alloc, &mut graph, call), word) {
             return Ok(false);
         }
     }
-    Ok(told.next().is_none())
+    Ok(content.next().is_none())
 }
 
 fn are_so(rt: &impl Abort, alloc: Global) {

@@ -1,5 +1,5 @@
-//! Tests of tc_graph and tc_edges: graphs as lines of text, which of them are the same, what is refused, and which edges
-//! are indirections.
+//! Tests of tc_graph and tc_edges: graphs as lines of text, which of them are the same, what is refused, and which
+//! edges are indirections.
 #![tactic(auto)]
 
 #[cfg(test)]

@@ -44,8 +44,8 @@ fn same(alloc: Global, left: &str, right: &str) -> Result<bool, GraphFault> {
 
 fn is_so(alloc: Global, line: &str) -> bool {
     let (left, rest) = line.split_once('|').unwrap_or((line, ""));
-    let (right, told) = rest.split_once('|').unwrap_or((rest, ""));
-    let wanted = Ok(told == "yes");
+    let (right, content) = rest.split_once('|').unwrap_or((rest, ""));
+    let wanted = Ok(content == "yes");
     same(alloc, left, right) == wanted && same(alloc, right, left) == wanted
 }
 

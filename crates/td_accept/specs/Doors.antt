@@ -23,13 +23,13 @@ pub record Binds {X T E : Type 0} (host : List ℕ) (port : ℕ) (before after :
   pub err : OnErr result (after ≡ before)
 
 -- the first visitor that was left has come, or there was none left
-abbrev pub Comes : {X : Type 0} → Option X → Option (Door X) → Option (Door X) → Type 0
-Comes came None after = after ≡ None
-Comes None (Some d) after = (d.visitors ≡ []) × (after ≡ Some d)
-Comes {X} (Some visitor) (Some d) after =
+abbrev pub VisitorComes : {X : Type 0} → Option X → Option (Door X) → Option (Door X) → Type 0
+VisitorComes came None after = after ≡ None
+VisitorComes None (Some d) after = (d.visitors ≡ []) × (after ≡ Some d)
+VisitorComes {X} (Some visitor) (Some d) after =
     (rest : List X) × (d.visitors ≡ visitor ∷ rest) × (after ≡ Some (record d { visitors = rest }))
 
-pub record Gives {X E : Type 0} (before after : Option (Door X))
+pub record GivesVisitor {X E : Type 0} (before after : Option (Door X))
     (result : Result (Option X) E) : Type 0 where
-  pub ok : IfOk result (λ came. Comes came before after)
+  pub ok : IfOk result (λ came. VisitorComes came before after)
   pub err : OnErr result (after ≡ before)

@@ -1,17 +1,17 @@
 use Rattle.std.specs.Prelude.{ℕ, Bool}
 
 -- of an acceptor over TCP: whether it was bound, and the count of its faults
-pub record Listening : Type 0 where
+pub record TcpAcceptState : Type 0 where
   pub bound : Bool
   pub faults : ℕ
 
 -- of a source over TCP: whether it was limited, and the count of its faults
-pub record Reading : Type 0 where
+pub record TcpSourceState : Type 0 where
   pub limited : Bool
   pub faults : ℕ
 
 -- of a sink over TCP: whether its connection is open, whether it was limited, and the count of its faults
-pub record Connected : Type 0 where
+pub record TcpSinkState : Type 0 where
   pub connected : Bool
   pub limited : Bool
   pub faults : ℕ

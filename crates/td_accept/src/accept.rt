@@ -2,7 +2,7 @@
 
 ghost use Rattle.std.specs.Prelude.{◌≡◌, ℕ, Bool, true, Option, OnOk, OnErr};
 ghost use Rattle.td_accept.specs.declared.visitor.Visitor.{Visitor};
-ghost use Rattle.td_accept.specs.Doors.{Binds, Door, Gives};
+ghost use Rattle.td_accept.specs.Doors.{Binds, Door, GivesVisitor};
 ghost use Rattle.td_out.specs.Causes.{HasCause};
 
 use crate::client_sink::ClientSink;
@@ -22,7 +22,7 @@ pub trait Accept {
     type W: Words + Send + Drop;
 
     /// The addresses to which it was bound, and the visitors that are left, where it tells.
-    ghost told: { Self → Option (Door (Visitor Self.S Self.K Self.L Self.W)) };
+    ghost content: { Self → Option (Door (Visitor Self.S Self.K Self.L Self.W)) };
 
     /// Whether it was bound to an address.
     ghost bound: { Self → Bool };
@@ -42,7 +42,7 @@ pub trait Accept {
         ensures same { same self.old self.new }
         ensures ok { OnOk result (bound self.new ≡ true) }
         ensures err { OnErr result (bound self.new ≡ bound self.old) }
-        ensures told { Binds host.now port (told self.old) (told self.new) result }
+        ensures content { Binds host.now port (content self.old) (content self.new) result }
         ensures cause { HasCause (faults self.old) (faults self.new) result };
 
     /// Waits for the next visitor. There is none where no more will come.
@@ -54,7 +54,7 @@ pub trait Accept {
         requires { bound self.old ≡ true }
         ensures same { same self.old self.new }
         ensures bound { bound self.new ≡ true }
-        ensures told { Gives (told self.old) (told self.new) result }
+        ensures content { GivesVisitor (content self.old) (content self.new) result }
         ensures cause { HasCause (faults self.old) (faults self.new) result };
 
     ghost same_self: { (a : Self) → same a a };

@@ -14,7 +14,7 @@ pub trait ClientWire: Wire {
     fn refuse(&mut self)
         ensures refuses { refuses self.new }
         ensures same { Self.same self.old self.new }
-        ensures told { Self.told self.new ≡ Self.told self.old }
+        ensures content { Self.content self.new ≡ Self.content self.old }
         ensures faults { Self.faults self.new ≡ Self.faults self.old };
 }
 

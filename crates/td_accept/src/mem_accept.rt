@@ -1,8 +1,8 @@
 //! An acceptor in memory.
 
 ghost use Rattle.std.specs.Prelude.{◌≡◌, ℕ, ◌++◌, ◌∷◌, [], Some, true, OnOk, OnErr, MatchOption};
-ghost use Rattle.td_accept.specs.Doors.{Binds, Gives, bound_to};
-ghost use Rattle.td_accept.specs.InMemory.{Admits, Opens, some_of};
+ghost use Rattle.td_accept.specs.Doors.{Binds, GivesVisitor, bound_to};
+ghost use Rattle.td_accept.specs.InMemory.{Admits, BindsAddress, some_of};
 ghost use Rattle.td_out.specs.Causes.{HasCause};
 
 use crate::accept::Accept;
@@ -33,9 +33,9 @@ pub struct MemAccept<S, K, L, W> {
 
 impl<S, K, L, W> Model for MemAccept<S, K, L, W> {
     ghost use Rattle.td_accept.specs.declared.visitor.Visitor.{Visitor};
-    ghost use Rattle.td_accept.specs.InMemory.{Listed};
+    ghost use Rattle.td_accept.specs.InMemory.{VisitorList};
 
-    ghost Value = { Listed (Visitor S K L W) };
+    ghost Value = { VisitorList (Visitor S K L W) };
 
     ghost view = { λ a. record {
       door = record { addresses = a.addresses.items; visitors = a.visitors.items };
@@ -110,7 +110,7 @@ where
 
     type W = W;
 
-    ghost told = { λ a. Some a.door };
+    ghost content = { λ a. Some a.door };
 
     ghost bound = { λ a. some_of a.door.addresses };
 
@@ -128,9 +128,9 @@ where
         ensures ok { OnOk result (some_of self.new.door.addresses ≡ true) }
         ensures err { OnErr result (some_of self.new.door.addresses
             ≡ some_of self.old.door.addresses) }
-        ensures told { Binds host.now port (Some self.old.door) (Some self.new.door) result }
+        ensures content { Binds host.now port (Some self.old.door) (Some self.new.door) result }
         ensures cause { HasCause self.old.calls.faults self.new.calls.faults result }
-        ensures exact { Opens host.now port self.old self.new result }
+        ensures exact { BindsAddress host.now port self.old self.new result }
     {
         if self.calls.fails() {
             self.calls.count_fault();
@@ -152,7 +152,7 @@ where
         requires { some_of self.old.door.addresses ≡ true }
         ensures same { Unit {0} }
         ensures bound { some_of self.new.door.addresses ≡ true }
-        ensures told { Gives (Some self.old.door) (Some self.new.door) result }
+        ensures content { GivesVisitor (Some self.old.door) (Some self.new.door) result }
         ensures cause { HasCause self.old.calls.faults self.new.calls.faults result }
         ensures exact { Admits self.old self.new result }
     {

@@ -2,7 +2,7 @@
 
 ghost use Rattle.std.specs.Prelude.{◌≡◌, ◌+◌, true, false};
 ghost use Rattle.std.specs.Result.{IsErr};
-ghost use Rattle.td_out.specs.Causes.{raised, HasCause};
+ghost use Rattle.td_out.specs.Causes.{next_count, HasCause};
 ghost use Rattle.td_wire.specs.Connections.{Connects};
 
 use crate::client_wire::ClientWire;
@@ -42,7 +42,7 @@ impl<L> RefusableWire<L> {
 }
 
 impl<L: Wire> Wire for RefusableWire<L> {
-    ghost told = { λ w. L.told w.wire };
+    ghost content = { λ w. L.content w.wire };
 
     ghost faults = { λ w. L.faults w.wire + w.refused };
 
@@ -55,12 +55,13 @@ impl<L: Wire> Wire for RefusableWire<L> {
     /// Where it refuses, the connection that stood stands on.
     fn connect(&mut self, host: &[u8], port: u16) -> Result<(), Failed>
         ensures same { L.same self.old.wire self.new.wire }
-        ensures bytes { Connects host.now port (L.told self.old.wire)
-            (L.told self.new.wire) result }
+        ensures bytes { Connects host.now port (L.content self.old.wire)
+            (L.content self.new.wire) result }
         ensures cause { HasCause (L.faults self.old.wire + self.old.refused)
             (L.faults self.new.wire + self.new.refused) result }
         ensures refuses { self.old.refuses ≡ true
-            → IsErr result × (self.new ≡ record self.old { refused = raised self.old.refused }) }
+            → IsErr result
+            × (self.new ≡ record self.old { refused = next_count self.old.refused }) }
     {
         if self.refuses {
             self.faults = self.faults.saturating_add(1);

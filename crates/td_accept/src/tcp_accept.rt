@@ -1,8 +1,8 @@
 //! An acceptor over TCP.
 
 ghost use Rattle.std.specs.Prelude.{◌≡◌, ◌≤◌, None, true, false, IfOk, is_some};
-ghost use Rattle.td_accept.specs.Doors.{Gives};
-ghost use Rattle.td_out.specs.Causes.{raised, HasCause};
+ghost use Rattle.td_accept.specs.Doors.{GivesVisitor};
+ghost use Rattle.td_out.specs.Causes.{next_count, HasCause};
 
 use crate::accept::Accept;
 use crate::connection::next_connection;
@@ -28,9 +28,9 @@ pub struct TcpAccept<'a, R: Net> {
 
 impl<'a, R: Net> Model for TcpAccept<'a, R> {
     ghost use Rattle.std.specs.Prelude.{is_some};
-    ghost use Rattle.td_accept.specs.Listening.{Listening};
+    ghost use Rattle.td_accept.specs.Listening.{TcpAcceptState};
 
-    ghost Value = { Listening };
+    ghost Value = { TcpAcceptState };
 
     ghost view = { λ a. record { bound = is_some a.listener; faults = a.faults } };
 }
@@ -51,7 +51,7 @@ impl<'a, R: Net> TcpAccept<'a, R> {
 
     /// Counts a fault. The count stands still at 2^64 - 1.
     fn count_fault(&mut self)
-        ensures after { self.new ≡ record self.old { faults = raised self.old.faults } }
+        ensures after { self.new ≡ record self.old { faults = next_count self.old.faults } }
         ensures later { self.old.faults ≤ self.new.faults }
     {
         self.faults = self.faults.saturating_add(1);
@@ -70,7 +70,7 @@ where
 
     type W = ChaChaWords;
 
-    ghost told = { λ _. None };
+    ghost content = { λ _. None };
 
     ghost bound = { λ a. a.bound };
 
@@ -113,7 +113,7 @@ where
         requires { self.old.bound ≡ true }
         ensures same { Unit {0} }
         ensures bound { self.new.bound ≡ true }
-        ensures told { Gives None None result }
+        ensures content { GivesVisitor None None result }
         ensures cause { HasCause self.old.faults self.new.faults result }
         ensures endless { IfOk result (λ visitor. is_some visitor ≡ true) }
     {

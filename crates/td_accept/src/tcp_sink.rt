@@ -2,7 +2,7 @@
 
 ghost use Rattle.std.specs.Prelude.{◌≡◌, ◌≤◌, None, true, false, is_some, OnOk};
 ghost use Rattle.std.specs.Io.KnownBytes.{WriteAppends};
-ghost use Rattle.td_out.specs.Causes.{raised, HasCause, Takes};
+ghost use Rattle.td_out.specs.Causes.{next_count, HasCause, TakesPiece};
 
 use crate::client_sink::ClientSink;
 use crate::session_limit::SessionLimit;
@@ -45,9 +45,9 @@ pub struct TcpSink<'a, R, S> {
 
 impl<'a, R, S> Model for TcpSink<'a, R, S> {
     ghost use Rattle.std.specs.Prelude.{is_some};
-    ghost use Rattle.td_accept.specs.Listening.{Connected};
+    ghost use Rattle.td_accept.specs.Listening.{TcpSinkState};
 
-    ghost Value = { Connected };
+    ghost Value = { TcpSinkState };
 
     ghost view = { λ s. record {
       connected = is_some s.stream;
@@ -71,7 +71,7 @@ impl<'a, R, S> TcpSink<'a, R, S> {
 
     /// Counts a fault. The count stands still at 2^64 - 1.
     fn count_fault(&mut self)
-        ensures after { self.new ≡ record self.old { faults = raised self.old.faults } }
+        ensures after { self.new ≡ record self.old { faults = next_count self.old.faults } }
         ensures later { self.old.faults ≤ self.new.faults }
     {
         self.faults = self.faults.saturating_add(1);
@@ -90,7 +90,7 @@ impl<'a, R: Clock, S: Write + OpenStream> Sink for TcpSink<'a, R, S> {
     /// A write that takes nothing of a piece that isn't empty is a fault, and so is one to a sink that was closed.
     fn write(&mut self, piece: &[u8]) -> Result<usize, Failed>
         ensures same { Unit {0} }
-        ensures some { Takes result piece.now }
+        ensures some { TakesPiece result piece.now }
         ensures bytes { WriteAppends None None result piece.now }
         ensures cause { HasCause self.old.faults self.new.faults result }
         ensures connected { self.new.connected ≡ self.old.connected }
@@ -137,7 +137,7 @@ fn write_to<R: Clock, S: Write + OpenStream>(
     limit: Option<SessionLimit>,
     piece: &[u8],
 ) -> Result<usize, Failed>
-    ensures some { Takes result piece.now }
+    ensures some { TakesPiece result piece.now }
     ensures stays { is_some stream.new ≡ is_some stream.old }
     ensures connected { OnOk result (is_some stream.old ≡ true) }
 {
@@ -147,15 +147,15 @@ fn write_to<R: Clock, S: Write + OpenStream>(
     }
 }
 
-/// One write to the stream. Where there is a limit it takes no longer than what is left of the session, and reads behind
-/// it don't wait.
+/// One write to the stream. Where there is a limit it takes no longer than what is left of the session, and reads
+/// behind it don't wait.
 fn write_within<R: Clock, S: Write + OpenStream>(
     rt: &R,
     stream: &mut S,
     limit: Option<SessionLimit>,
     piece: &[u8],
 ) -> Result<usize, Failed>
-    ensures some { Takes result piece.now }
+    ensures some { TakesPiece result piece.now }
 {
     let Some(limit) = limit else {
         return write_some(stream, piece);

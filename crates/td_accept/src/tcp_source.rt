@@ -3,7 +3,7 @@
 ghost use Rattle.std.specs.Prelude.{◌≡◌, ◌≤◌, None, true, false};
 ghost use Rattle.std.specs.Io.{ReadsAtMost};
 ghost use Rattle.std.specs.Io.KnownBytes.{ReadConsumes};
-ghost use Rattle.td_out.specs.Causes.{raised, HasCause};
+ghost use Rattle.td_out.specs.Causes.{next_count, HasCause};
 
 use crate::client_source::ClientSource;
 use crate::session_limit::SessionLimit;
@@ -38,9 +38,9 @@ pub struct TcpSource<'a, R, S> {
 
 impl<'a, R, S> Model for TcpSource<'a, R, S> {
     ghost use Rattle.std.specs.Prelude.{is_some};
-    ghost use Rattle.td_accept.specs.Listening.{Reading};
+    ghost use Rattle.td_accept.specs.Listening.{TcpSourceState};
 
-    ghost Value = { Reading };
+    ghost Value = { TcpSourceState };
 
     ghost view = { λ s. record { limited = is_some s.limit; faults = s.faults } };
 }
@@ -61,7 +61,7 @@ impl<'a, R, S> TcpSource<'a, R, S> {
 
     /// Counts a fault. The count stands still at 2^64 - 1.
     fn count_fault(&mut self)
-        ensures after { self.new ≡ record self.old { faults = raised self.old.faults } }
+        ensures after { self.new ≡ record self.old { faults = next_count self.old.faults } }
         ensures later { self.old.faults ≤ self.new.faults }
     {
         self.faults = self.faults.saturating_add(1);

@@ -34,7 +34,7 @@ impl<S: ClientSource, K: ClientSink, L: ClientWire, W> Visitor<S, K, L, W> {
             × (K.written self.new.sink ≡ K.written self.old.sink)
             × (K.faults self.new.sink ≡ K.faults self.old.sink) }
         ensures wire { L.refuses self.new.wire × L.same self.old.wire self.new.wire
-            × (L.told self.new.wire ≡ L.told self.old.wire)
+            × (L.content self.new.wire ≡ L.content self.old.wire)
             × (L.faults self.new.wire ≡ L.faults self.old.wire) }
         ensures words { self.new.words ≡ self.old.words }
     {

@@ -223,8 +223,8 @@ fn tries_again<A: Accept>(accept: &mut A) -> bool {
     }
 }
 
-/// Whether a visitor over TCP is limited in all its parts. The peer that wasn't called isn't taken for one that can't be
-/// reached.
+/// Whether a visitor over TCP is limited in all its parts. The peer that wasn't called isn't taken for one that can't
+/// be reached.
 fn limits(alloc: Global, net: &FakeNet) -> Result<bool, Memory> {
     let pool = ConnectionPool::new(alloc)?;
     let mut accept = TcpAccept::new(&net, Some(&pool));

@@ -109,8 +109,8 @@ fn is_heard<S: Source, K: ClientSink, L, W, R: Threads + Wait>(
         match scope.spawn(move || hears(stream, size)) {
             Err(_) => false,
             Ok(handle) => {
-                let told = tells(visitor);
-                handle.join(rt) && told
+                let content = tells(visitor);
+                handle.join(rt) && content
             }
         }
     })
@@ -138,7 +138,7 @@ fn hears_at<A: Accept, R: Net<Listener = TcpListener, Stream = TcpStream> + Thre
 
 /// A connection that is closed while bytes of it are unread would be reset, and what was told lost.
 #[test]
-fn a_client_that_has_sent_on_reads_what_was_told(rt: HostRuntime) -> Result<(), Fail> {
+fn a_client_that_has_sent_on_reads_what_was_sent(rt: HostRuntime) -> Result<(), Fail> {
     let port = free_port(&rt)?;
     let mut accept = TcpAccept::new(&rt, None);
     let good = hears_at(&rt, &mut accept, port)?;

@@ -32,9 +32,9 @@ pub fn hears(mut stream: TcpStream, size: usize) -> bool {
             return false;
         }
     }
-    let mut told = [0; 4];
-    if stream.read_exact(&mut told).is_err() || told != *b"told" {
+    let mut content = [0; 4];
+    if stream.read_exact(&mut content).is_err() || content != *b"told" {
         return false;
     }
-    matches!(stream.read(&mut told), Ok(0))
+    matches!(stream.read(&mut content), Ok(0))
 }

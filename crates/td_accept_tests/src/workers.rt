@@ -4,7 +4,7 @@ use std::alloc::Global;
 use std::sync::Wait;
 use std::test::Fail;
 use std::thread::Threads;
-use td_workers::{Hall, Job, Stop, work_all};
+use td_workers::{Job, JobSource, Stop, work_all};
 
 /// A job: doubles its number.
 #[derive(Drop)]
@@ -39,8 +39,8 @@ impl Job<Doubled> for Doubling {
     }
 }
 
-/// A hall of so many jobs, which counts for each how often its double came back under its number, and how many were
-/// done by the thread that takes them in.
+/// A job source of so many jobs, which counts for each how often its double came back under its number, and how many
+/// were done by the thread that takes them in.
 #[derive(Drop)]
 struct Counting {
     jobs: u64,
@@ -48,7 +48,7 @@ struct Counting {
     here: u64,
 }
 
-impl Hall<Doubled, Doubling> for Counting {
+impl JobSource<Doubled, Doubling> for Counting {
     ghost goes = { λ _ _. Unit {0} };
 
     ghost ready = { λ _. Unit {0} };
@@ -99,16 +99,16 @@ impl Hall<Doubled, Doubling> for Counting {
 
 /// Whether each of so many jobs comes back once. Up to 64 of them each have a thread of their own.
 fn all_come_back<R: Threads + Wait>(rt: &R, alloc: Global, jobs: u64) -> bool {
-    let hall = Counting {
+    let job_source = Counting {
         jobs,
         returns: Vec::new(alloc),
         here: 0,
     };
-    let (stop, hall) = work_all(rt, alloc, hall);
-    let complete = stop.is_ok() && hall.returns.len() as u64 == jobs;
-    let once = hall.returns.iter().all(|count| *count == 1);
-    let elsewhere = jobs > 64 || hall.here == 0;
-    drop(hall);
+    let (stop, job_source) = work_all(rt, alloc, job_source);
+    let complete = stop.is_ok() && job_source.returns.len() as u64 == jobs;
+    let once = job_source.returns.iter().all(|count| *count == 1);
+    let elsewhere = jobs > 64 || job_source.here == 0;
+    drop(job_source);
     complete && once && elsewhere
 }
 

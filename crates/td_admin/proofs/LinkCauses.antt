@@ -2,18 +2,18 @@
 use Rattle.std.proofs.Common.{◌≡◌, ℕ, ◌<◌, ◌≤◌, Bool, true, false, List, [], ◌∷◌, ◌++◌, length, nat_le, Option, Some}
 use Rattle.std.proofs.Common.{None, Ok, Err, refl, sym, ap, ◌∙◌, arith}
 use Rattle.std.proofs.lemmas.Bool.Decides.{nat_tests}
-use Rattle.td_codes.specs.declared.reference.Ior.{Ior}
+use Rattle.td_typecode.specs.declared.reference.Ior.{Ior}
 use Rattle.td_ops.specs.declared.call.Change.TheVariants as change
 use Rattle.td_ops.specs.declared.outcome.Reply.TheVariants as reply
 use Rattle.td_store.specs.LinkLists.{most_links}
 use Rattle.td_store.specs.declared.record.LinkRecord.{LinkRecord}
 use Rattle.td_value.specs.declared.enumerations.FollowOption.{FollowOption}
-use Rattle.td_register.specs.Causes.{Cause, Comes, limit_if, unless, unless_full, ◌otherwise◌}
+use Rattle.td_register.specs.Causes.{Cause, ChangeResult, limit_if, unless, unless_full, ◌otherwise◌}
 use Rattle.td_register.specs.Entries.{entry}
 use Rattle.td_register.specs.declared.history.Accepted.{Accepted}
 use Rattle.td_register.specs.declared.refusal.Refusal.TheVariants.{Limit}
 use Rattle.td_ops.specs.declared.call.Change.{Change}
-use Rattle.td_register.specs.Judged.{Accepts, IsMet}
+use Rattle.td_register.specs.Judged.{AcceptsChange, IsMet}
 use Rattle.td_admin.specs.LinkJudged.{IsLinked, link_cause}
 use Rattle.td_admin.specs.Links.{add_link_cause, name_cause, new_links, rules_cause, target_cause}
 use Rattle.td_register.specs.Stores.{Store}
@@ -63,7 +63,7 @@ module _ (s : Store) (name : List ℕ) (target : Ior) (def_pass_on limiting : Fo
 
   -- no link is made, and the change is refused
   pub not_made : (full : Bool) (f : Fault) → IsMet cause f →
-      Accepts c (unless_full full whole reply.Nothing after) s s (Err f)
+      AcceptsChange c (unless_full full whole reply.Nothing after) s s (Err f)
   not_made full f h =
       is_refused c full whole reply.Nothing s after f
       (limited-met (name_cause s.links name) (target_cause target register) (rules_cause
@@ -71,10 +71,10 @@ module _ (s : Store) (name : List ℕ) (target : Ior) (def_pass_on limiting : Fo
 
   -- no more changes are accepted; whether there is room for the link doesn't matter
   pub not_counted : (full : Bool) → cause ≡ None → full ≡ true →
-      Accepts c (unless_full full whole reply.Nothing after) s s (Err (Refused Limit))
+      AcceptsChange c (unless_full full whole reply.Nothing after) s s (Err (Refused Limit))
   not_counted full none e = (rw (whole-is none, e) (by passed), refl)
     where
-      by : (b : Bool) → ◌≡◌ {A = Comes} (unless (limit_if b otherwise limit_if true) reply.Nothing after) (Err Limit)
+      by : (b : Bool) → ◌≡◌ {A = ChangeResult} (unless (limit_if b otherwise limit_if true) reply.Nothing after) (Err Limit)
       by true = refl
       by false = refl
 
@@ -86,7 +86,7 @@ module _ (s : Store) (name : List ℕ) (target : Ior) (def_pass_on limiting : Fo
 
   -- a link is made, and there is no room for it
   pub not_added : (full : Bool) (l : LinkRecord) (new : Store) (f : Fault) → cause ≡ None →
-      IsLinked {X = Unit {0}} l s new (Err f) → Accepts c (unless_full full whole reply.Nothing after) s new (Err f)
+      IsLinked {X = Unit {0}} l s new (Err f) → AcceptsChange c (unless_full full whole reply.Nothing after) s new (Err f)
   not_added full l new (Refused x) none k =
       let is : whole ≡ Some x = whole-is none ∙ (ap limit_if (has_none_left k.0) ∙ ap (λ (y : Refusal). Some y) (sym k.1)) in
       (ap (λ (w : Cause). unless_full full w reply.Nothing after) is, k.2)
@@ -95,7 +95,7 @@ module _ (s : Store) (name : List ℕ) (target : Ior) (def_pass_on limiting : Fo
   -- a link is made, and added
   pub is_added : (full : Bool) (l : LinkRecord) (a : Accepted) (new : Store) → cause ≡ None → full ≡ false →
       new_links name target def_pass_on limiting register ≡ l ∷ [] → IsLinked {X = Unit {0}} l s new (Ok tt) →
-      a ≡ entry c reply.Nothing → Accepts c (unless_full full whole reply.Nothing after) s new (Ok a)
+      a ≡ entry c reply.Nothing → AcceptsChange c (unless_full full whole reply.Nothing after) s new (Ok a)
   is_added full l a new none e made k is =
       is_accepted c full whole reply.Nothing s after a new (whole-is none ∙ ap limit_if (is_not_full k.0)) e is
       (k.1 ∙ ap (λ (ls : List LinkRecord). record s { links = s.links ++ ls }) (sym made))

@@ -1,7 +1,7 @@
 -- What Admin sets and lists, and the attributes that all objects tell (OMG's Trading Object Service, interfaces
 -- TraderComponents, SupportAttributes, ImportAttributes, LinkAttributes and Admin).
 use Rattle.std.specs.Prelude.{ℕ, nat_lt, Bool, true, false, if◌then◌else◌, List, length, map, filter}
-use Rattle.td_codes.specs.declared.reference.Ior.{Ior}
+use Rattle.td_typecode.specs.declared.reference.Ior.{Ior}
 use Rattle.td_exceptions.specs.declared.exception.UserException.TheVariants.{NotImplemented}
 use Rattle.td_ior.specs.Nil.{nil}
 use Rattle.td_policy.specs.declared.attributes.Attributes.{Attributes}

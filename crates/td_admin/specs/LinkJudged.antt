@@ -1,6 +1,6 @@
 -- What the functions behind a new link answer.
 use Rattle.std.specs.Prelude.{◌≡◌, ℕ, ◌<◌, ◌≤◌, List, [], ◌∷◌, ◌++◌, length, Option, None, Result, Ok, Err}
-use Rattle.td_codes.specs.declared.reference.Ior.{Ior}
+use Rattle.td_typecode.specs.declared.reference.Ior.{Ior}
 use Rattle.td_store.specs.LinkLists.{link_of, most_links}
 use Rattle.td_store.specs.declared.record.LinkRecord.{LinkRecord}
 use Rattle.td_value.specs.declared.enumerations.FollowOption.{FollowOption}
@@ -30,7 +30,7 @@ IsNewLink s name target def_pass_on limiting register (Ok l) =
 IsNewLink s name target def_pass_on limiting register (Err f) =
     IsMet (link_cause s name target def_pass_on limiting register) f
 
--- The link came last; or there are as many links as may be, or memory was wanted, and nothing changed.
+-- The link came last; or there are as many links as may be, or memory ran out, and nothing changed.
 abbrev pub IsLinked : {X : Type 0} → LinkRecord → (old new : Store) → Result X Fault → Type 0
 IsLinked l old new (Ok x) = (length old.links < most_links)
     × (new ≡ record old { links = old.links ++ l ∷ [] })

@@ -2,7 +2,7 @@
 use Rattle.std.specs.Prelude.{ℕ, nat_le, nat_lt, Bool, true, not, is_some, if◌then◌else◌, List, [], ◌∷◌, ◌++◌, length}
 use Rattle.std.specs.Prelude.{map, Option, None, Some}
 use Rattle.td_cdr.specs.Names.{word_name}
-use Rattle.td_codes.specs.declared.reference.Ior.{Ior}
+use Rattle.td_typecode.specs.declared.reference.Ior.{Ior}
 use Rattle.td_exceptions.specs.declared.exception.UserException.TheVariants.{IllegalLinkName, UnknownLinkName}
 use Rattle.td_exceptions.specs.declared.exception.UserException.TheVariants.{DuplicateLinkName, InvalidLookupRef}
 use Rattle.td_exceptions.specs.declared.exception.UserException.TheVariants.{DefaultFollowTooPermissive}
@@ -13,15 +13,15 @@ use Rattle.td_value.specs.declared.enumerations.FollowOption.{FollowOption}
 use Rattle.td_ops.specs.declared.outcome.Outcome.{Outcome}
 use Rattle.td_ops.specs.declared.outcome.Outcome.TheVariants.{Done}
 use Rattle.td_ops.specs.declared.outcome.Reply.TheVariants as reply
-use Rattle.td_store.specs.LinkLists.{link_of, without_link, ruled, most_links}
+use Rattle.td_store.specs.LinkLists.{link_of, without_link, with_follow_rules, most_links}
 use Rattle.td_store.specs.Stores.{link_info_of}
 use Rattle.td_store.specs.declared.record.LinkRecord.{LinkRecord}
-use Rattle.td_register.specs.Causes.{Cause, Found, raise, raise_if, limit_if, ◌otherwise◌, there, given, tells}
+use Rattle.td_register.specs.Causes.{Cause, OrRefusal, raise, raise_if, limit_if, ◌otherwise◌, there, with_cause, tells}
 use Rattle.td_register.specs.Stores.{Store}
 
 -- the link of a name
-abbrev pub linked : List LinkRecord → List ℕ → Found LinkRecord
-linked links name = if word_name name then there (link_of links name)
+abbrev pub link_named : List LinkRecord → List ℕ → OrRefusal LinkRecord
+link_named links name = if word_name name then there (link_of links name)
     (UnknownLinkName name) else raise (IllegalLinkName name)
 
 -- the first rule permits more than the second
@@ -77,7 +77,7 @@ with_link s name target def_pass_on limiting register =
 -- ---- remove_link
 
 abbrev pub remove_link_cause : Store → List ℕ → Cause
-remove_link_cause s name = given (linked s.links name) (λ l. None)
+remove_link_cause s name = with_cause (link_named s.links name) (λ l. None)
 
 abbrev pub without_named : Store → List ℕ → Store
 without_named s name = record s { links = without_link name s.links }
@@ -86,17 +86,17 @@ without_named s name = record s { links = without_link name s.links }
 
 abbrev pub modify_link_cause : Store → List ℕ → (def_pass_on limiting : FollowOption) → Cause
 modify_link_cause s name def_pass_on limiting =
-    given (linked s.links name)
+    with_cause (link_named s.links name)
     (λ l. rules_cause s.attributes.max_link_follow_policy def_pass_on limiting)
 
 abbrev pub with_rules : Store → List ℕ → (def_pass_on limiting : FollowOption) → Store
 with_rules s name def_pass_on limiting =
-    record s { links = map (ruled name def_pass_on limiting) s.links }
+    record s { links = map (with_follow_rules name def_pass_on limiting) s.links }
 
 -- ---- describe_link, list_links
 
 unfoldable pub describe_link : Store → List ℕ → Outcome
-describe_link s name = tells (linked s.links name) (λ l. reply.Link (link_info_of l))
+describe_link s name = tells (link_named s.links name) (λ l. reply.Link (link_info_of l))
 
 unfoldable pub list_links : Store → Outcome
 list_links s = Done (reply.Names (map (λ l. l.name) s.links))

@@ -11,25 +11,25 @@ use Rattle.td_types.specs.declared.fault.RepoFault.TheVariants as fault
 use Rattle.td_types.specs.declared.fault.TypesFault.{TypesFault}
 use Rattle.td_types.specs.declared.fault.TypesFault.TheVariants.{User as Raises, Full, Memory}
 use Rattle.td_types.specs.declared.reply.TypesReply.{TypesReply}
-use Rattle.td_types.specs.declared.reply.TypesReply.TheVariants as told
+use Rattle.td_types.specs.declared.reply.TypesReply.TheVariants as content
 use Rattle.td_exceptions.specs.declared.exception.UserException.{UserException}
 use Rattle.td_exceptions.specs.declared.exception.UserException.TheVariants as user
 use Rattle.td_ops.specs.declared.outcome.Outcome.{Outcome}
 use Rattle.td_ops.specs.declared.outcome.Outcome.TheVariants.{Done}
 use Rattle.td_ops.specs.declared.outcome.Reply.{Reply}
 use Rattle.td_ops.specs.declared.outcome.Reply.TheVariants as reply
-use Rattle.td_register.specs.Causes.{Cause, refused}
+use Rattle.td_register.specs.Causes.{Cause, refusal_outcome}
 use Rattle.td_register.specs.Stores.{Store}
 use Rattle.td_register.specs.declared.refusal.Refusal.{Refusal}
 use Rattle.td_register.specs.declared.refusal.Refusal.TheVariants.{Raised, Limit}
 
 abbrev pub reply_of : TypesReply → Reply
-reply_of (told.Added incarnation) = reply.Incarnation (halves incarnation)
-reply_of told.Removed = reply.Nothing
-reply_of told.Masked = reply.Nothing
-reply_of told.Unmasked = reply.Nothing
-reply_of (told.Names names) = reply.Names names
-reply_of (told.Described described) = reply.Typed described
+reply_of (content.Added incarnation) = reply.Incarnation (halves incarnation)
+reply_of content.Removed = reply.Nothing
+reply_of content.Masked = reply.Nothing
+reply_of content.Unmasked = reply.Nothing
+reply_of (content.Names names) = reply.Names names
+reply_of (content.Described described) = reply.Typed described
 
 abbrev pub exception_of : RepoFault → UserException
 exception_of (fault.IllegalServiceType name) = user.IllegalServiceType name
@@ -46,20 +46,20 @@ exception_of (fault.HasSubTypes the_type sub_type) = user.HasSubTypes the_type s
 exception_of (fault.AlreadyMasked name) = user.AlreadyMasked name
 exception_of (fault.NotMasked name) = user.NotMasked name
 
--- Past a limit it is IMP_LIMIT. As they are defined, the repository's calls come to no want of memory (law
--- `calls_come_to_no_want_of_memory` of td_types), so the last line is never met.
+-- Past a limit it is IMP_LIMIT. As they are defined, the repository's calls come to no lack of memory (law
+-- `calls_never_run_out_of_memory` of td_types), so the last line is never met.
 abbrev pub refusal_of : TypesFault → Refusal
 refusal_of (Raises f) = Raised (exception_of f)
 refusal_of Full = Limit
 refusal_of Memory = Limit
 
 -- why the repository refuses a change, if it does
-abbrev pub types_cause : types.Comes → Cause
+abbrev pub types_cause : types.RepositoryResult → Cause
 types_cause (Ok answer) = None
 types_cause (Err f) = Some (refusal_of f)
 
 -- the store with the repository behind it
-abbrev pub with_types : Store → types.Comes → Store
+abbrev pub with_types : Store → types.RepositoryResult → Store
 with_types s (Ok answer) = record s { types = answer.1 }
 with_types s (Err f) = s
 
@@ -72,9 +72,9 @@ abbrev pub added_reply : Store → Reply
 added_reply s = reply.Incarnation (halves (next_incarnation s.types.last))
 
 -- a look at the repository
-abbrev pub outcome_of : types.Comes → Outcome
+abbrev pub outcome_of : types.RepositoryResult → Outcome
 outcome_of (Ok answer) = Done (reply_of answer.0)
-outcome_of (Err f) = refused (refusal_of f)
+outcome_of (Err f) = refusal_outcome (refusal_of f)
 
 -- ---- looks
 

@@ -8,7 +8,7 @@ ghost use Rattle.td_admin.specs.Administration.{attribute_reply, follow_of, get,
 ghost use Rattle.td_admin.specs.Administration.{set_attributes, stem_cause, truth_of, with_follow, with_number};
 ghost use Rattle.td_admin.specs.Administration.{with_stem, with_truth};
 ghost use Rattle.td_register.specs.Causes.{unless_full};
-ghost use Rattle.td_register.specs.Judged.{Accepts, Tells};
+ghost use Rattle.td_register.specs.Judged.{AcceptsChange, IsOutcomeOrNoMemory};
 ghost use Rattle.td_register.specs.Needs.{NeedsNone};
 
 use std::alloc::Global;
@@ -126,7 +126,7 @@ pub fn set_truth(
     attribute: TruthAttribute,
     value: bool,
 ) -> Result<Accepted, Fault>
-    ensures accepts { Accepts (change.SetTruth attribute value)
+    ensures accepts { AcceptsChange (change.SetTruth attribute value)
         (unless_full full None (reply.Truth (truth_of attribute store.old.attributes))
         (set_attributes store.old (with_truth attribute value store.old.attributes)))
         store.old store.new result }
@@ -154,7 +154,7 @@ pub fn set_number(
     attribute: NumberAttribute,
     value: u32,
 ) -> Result<Accepted, Fault>
-    ensures accepts { Accepts (change.SetNumber attribute value)
+    ensures accepts { AcceptsChange (change.SetNumber attribute value)
         (unless_full full None (reply.Number (number_of attribute store.old.attributes))
         (set_attributes store.old (with_number attribute value store.old.attributes)))
         store.old store.new result }
@@ -182,7 +182,7 @@ pub fn set_follow(
     attribute: FollowAttribute,
     value: FollowOption,
 ) -> Result<Accepted, Fault>
-    ensures accepts { Accepts (change.SetFollow attribute value)
+    ensures accepts { AcceptsChange (change.SetFollow attribute value)
         (unless_full full None (reply.Follow (follow_of attribute store.old.attributes))
         (set_attributes store.old (with_follow attribute value store.old.attributes)))
         store.old store.new result }
@@ -203,14 +203,14 @@ pub fn set_follow(
 ///
 /// # Errors
 ///
-/// IMP_LIMIT above 64 octets, and where no more changes are accepted; `Memory` for want of memory.
+/// IMP_LIMIT above 64 octets, and where no more changes are accepted; `Memory` when out of memory.
 pub fn set_request_id_stem(
     alloc: Global,
     store: &mut Store,
     full: bool,
     value: Octets,
 ) -> Result<Accepted, Fault>
-    ensures { Accepts (change.SetRequestIdStem value)
+    ensures { AcceptsChange (change.SetRequestIdStem value)
         (unless_full full (stem_cause value) (reply.Stem store.old.attributes.request_id_stem)
         (set_attributes store.old (with_stem value store.old.attributes))) store.old store.new
         result }
@@ -230,7 +230,7 @@ pub fn set_request_id_stem(
 ///
 /// # Errors
 ///
-/// `Memory` for want of memory alone.
+/// `Memory` only when out of memory.
 fn attribute_reply(alloc: Global, store: &Store, which: Attribute) -> Result<Reply, Memory>
     ensures { IfOk result (λ r. r ≡ attribute_reply store.now which) }
 {
@@ -252,10 +252,10 @@ fn attribute_reply(alloc: Global, store: &Store, which: Attribute) -> Result<Rep
 ///
 /// # Errors
 ///
-/// `Memory` for want of memory alone.
+/// `Memory` only when out of memory.
 #[tactic(auto, unfolding(crate::specs::Administration::get))]
 pub fn get(alloc: Global, store: &Store, which: Attribute) -> Result<Outcome, Memory>
-    ensures { Tells (get store.now which) result }
+    ensures { IsOutcomeOrNoMemory (get store.now which) result }
 {
     Ok(Outcome::Done(attribute_reply(alloc, store, which)?))
 }

@@ -5,7 +5,7 @@ ghost use Rattle.td_ior.specs.Profiles.{iiop_of};
 ghost use Rattle.td_ops.specs.declared.call.Change.TheVariants as change;
 ghost use Rattle.td_ops.specs.declared.outcome.Reply.TheVariants as reply;
 ghost use Rattle.td_store.specs.LinkLists.{link_of};
-ghost use Rattle.td_register.specs.Judged.{Accepts, IsMet, Judges};
+ghost use Rattle.td_register.specs.Judged.{AcceptsChange, IsMet, IsFirstCause};
 ghost use Rattle.td_admin.specs.LinkJudged.{IsLinked, IsNewLink, link_cause};
 ghost use Rattle.td_register.specs.Causes.{unless_full};
 ghost use Rattle.td_admin.specs.Links.{add_link_cause, name_cause, permits_more, rules_cause, target_cause, with_link};
@@ -33,7 +33,7 @@ pub(crate) fn check_rules(
     def_pass_on: FollowOption,
     limiting: FollowOption,
 ) -> Result<(), Fault>
-    ensures judged { Judges (rules_cause maximum def_pass_on limiting) result }
+    ensures judged { IsFirstCause (rules_cause maximum def_pass_on limiting) result }
     ensures free { NeedsNone result }
 {
     if permits_more(def_pass_on, limiting) {
@@ -53,7 +53,7 @@ pub(crate) fn check_rules(
 
 /// Refuses a name that is none, or that a link has.
 fn check_name(alloc: Global, links: &Links, name: &Text) -> Result<(), Fault>
-    ensures { Judges (name_cause links.now name.now) result }
+    ensures { IsFirstCause (name_cause links.now name.now) result }
 {
     if !is_word_name(name.as_slice()) {
         return Err(raised(UserException::IllegalLinkName {
@@ -75,7 +75,7 @@ pub(crate) fn is_reachable(alloc: Global, reference: &Ior) -> bool
     match iiop_of(alloc, reference) {
         Ok(_) => true,
         Err(IorFault::NoIiop) => false,
-        // Only a profile that was found wants memory.
+        // Only a profile that was found runs out of memory.
         Err(_) => true,
     }
 }
@@ -161,7 +161,7 @@ fn insert_link(alloc: Global, store: &mut Store, link: LinkRecord) -> Result<(),
 ///
 /// `IllegalLinkName`, `DuplicateLinkName`; `InvalidLookupRef`; `DefaultFollowTooPermissive`,
 /// `LimitingFollowTooPermissive`; IMP_LIMIT for too many links, and where no more changes are accepted;
-/// `Memory` for want of memory.
+/// `Memory` when out of memory.
 pub fn add_link(
     alloc: Global,
     store: &mut Store,
@@ -172,7 +172,7 @@ pub fn add_link(
     limiting: FollowOption,
     register: Option<Ior>,
 ) -> Result<Accepted, Fault>
-    ensures { Accepts (change.AddLink name target def_pass_on limiting register)
+    ensures { AcceptsChange (change.AddLink name target def_pass_on limiting register)
         (unless_full full (add_link_cause store.old name target def_pass_on limiting register)
         reply.Nothing (with_link store.old name target def_pass_on limiting register))
         store.old store.new result }

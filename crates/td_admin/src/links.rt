@@ -3,24 +3,24 @@
 ghost use Rattle.std.specs.Prelude.{◌≡◌, Ok, MatchResult, IfOk};
 ghost use Rattle.td_ops.specs.declared.call.Change.TheVariants as change;
 ghost use Rattle.td_ops.specs.declared.outcome.Reply.TheVariants as reply;
-ghost use Rattle.td_register.specs.Judged.{IsAbsent, Accepts, Tells};
+ghost use Rattle.td_register.specs.Judged.{IsAbsent, AcceptsChange, IsOutcomeOrNoMemory};
 ghost use Rattle.td_store.specs.Stores.{link_info_of};
 ghost use Rattle.td_register.specs.Needs.{NeedsNone};
 ghost use Rattle.td_register.specs.Causes.{unless_full};
-ghost use Rattle.td_admin.specs.Links.{describe_link, linked, list_links, remove_link_cause, without_named};
+ghost use Rattle.td_admin.specs.Links.{describe_link, link_named, list_links, remove_link_cause, without_named};
 
 use std::alloc::Global;
 use td_cdr::{Memory, Text, Twin, is_word_name};
 use td_exceptions::UserException;
 use td_ops::{Change, Outcome, Reply};
-use td_register::{Accepted, ChangeReply, Fault, Refusal, entry_of, raised, refused};
+use td_register::{Accepted, ChangeReply, Fault, Refusal, entry_of, raised, refusal_outcome};
 use td_store::{LinkRecord, Links, Store};
 use td_value::LinkInfo;
 
 /// The link of a name.
-fn linked<'a>(alloc: Global, links: &'a Links, name: &Text) -> Result<&'a LinkRecord, Fault>
-    ensures { MatchResult result (λ l. linked links.now name.now ≡ Ok l.now)
-        (IsAbsent (linked links.now name.now)) }
+fn link_named<'a>(alloc: Global, links: &'a Links, name: &Text) -> Result<&'a LinkRecord, Fault>
+    ensures { MatchResult result (λ l. link_named links.now name.now ≡ Ok l.now)
+        (IsAbsent (link_named links.now name.now)) }
 {
     if !is_word_name(name.as_slice()) {
         return Err(raised(UserException::IllegalLinkName {
@@ -41,7 +41,7 @@ fn linked<'a>(alloc: Global, links: &'a Links, name: &Text) -> Result<&'a LinkRe
 ///
 /// `IllegalLinkName`, `UnknownLinkName`; IMP_LIMIT where no more changes are accepted.
 pub fn remove_link(store: &mut Store, full: bool, name: Text) -> Result<Accepted, Fault>
-    ensures accepts { Accepts (change.RemoveLink name)
+    ensures accepts { AcceptsChange (change.RemoveLink name)
         (unless_full full (remove_link_cause store.old name) reply.Nothing
         (without_named store.old name)) store.old store.new result }
     ensures free { NeedsNone result }
@@ -63,7 +63,7 @@ pub fn remove_link(store: &mut Store, full: bool, name: Text) -> Result<Accepted
 ///
 /// # Errors
 ///
-/// `Memory` for want of memory alone.
+/// `Memory` only when out of memory.
 pub(crate) fn link_info(alloc: Global, link: &LinkRecord) -> Result<LinkInfo, Memory>
     ensures { IfOk result (λ i. i ≡ link_info_of link.now) }
 {
@@ -79,14 +79,14 @@ pub(crate) fn link_info(alloc: Global, link: &LinkRecord) -> Result<LinkInfo, Me
 ///
 /// # Errors
 ///
-/// `Memory` for want of memory alone.
+/// `Memory` only when out of memory.
 #[tactic(auto, unfolding(crate::specs::Links::describe_link))]
 pub fn describe_link(alloc: Global, store: &Store, name: &Text) -> Result<Outcome, Memory>
-    ensures { Tells (describe_link store.now name.now) result }
+    ensures { IsOutcomeOrNoMemory (describe_link store.now name.now) result }
 {
-    match linked(alloc, &store.links, name) {
+    match link_named(alloc, &store.links, name) {
         Ok(link) => Ok(Outcome::Done(Reply::Link(link_info(alloc, link)?))),
-        Err(Fault::Refused(refusal)) => Ok(refused(refusal)),
+        Err(Fault::Refused(refusal)) => Ok(refusal_outcome(refusal)),
         Err(Fault::Memory) => Err(Memory),
     }
 }
@@ -95,10 +95,10 @@ pub fn describe_link(alloc: Global, store: &Store, name: &Text) -> Result<Outcom
 ///
 /// # Errors
 ///
-/// `Memory` for want of memory alone.
+/// `Memory` only when out of memory.
 #[tactic(auto, unfolding(crate::specs::Links::list_links))]
 pub fn list_links(alloc: Global, store: &Store) -> Result<Outcome, Memory>
-    ensures { Tells (list_links store.now) result }
+    ensures { IsOutcomeOrNoMemory (list_links store.now) result }
 {
     Ok(Outcome::Done(Reply::Names(store.links.names(alloc)?)))
 }

@@ -3,7 +3,7 @@
 ghost use Rattle.std.specs.Prelude.{◌≡◌, map, IfOk};
 ghost use Rattle.td_admin.specs.Administration.{ids_of, list_offers, list_proxies};
 ghost use Rattle.td_register.specs.Ids.{id_of};
-ghost use Rattle.td_register.specs.Judged.{Tells};
+ghost use Rattle.td_register.specs.Judged.{IsOutcomeOrNoMemory};
 
 use std::alloc::Global;
 use td_cdr::{List, Memory, Text};
@@ -37,10 +37,10 @@ fn ids_of(alloc: Global, offers: &Offers, proxies: bool) -> Result<List<Text>, M
 ///
 /// # Errors
 ///
-/// `Memory` for want of memory alone.
+/// `Memory` only when out of memory.
 #[tactic(auto, unfolding(crate::specs::Administration::list_offers))]
 pub fn list_offers(alloc: Global, store: &Store) -> Result<Outcome, Memory>
-    ensures { Tells (list_offers store.now) result }
+    ensures { IsOutcomeOrNoMemory (list_offers store.now) result }
 {
     let ids = ids_of(alloc, &store.offers, false)?;
     Ok(Outcome::Done(Reply::Ids {
@@ -53,10 +53,10 @@ pub fn list_offers(alloc: Global, store: &Store) -> Result<Outcome, Memory>
 ///
 /// # Errors
 ///
-/// `Memory` for want of memory alone.
+/// `Memory` only when out of memory.
 #[tactic(auto, unfolding(crate::specs::Administration::list_proxies))]
 pub fn list_proxies(alloc: Global, store: &Store) -> Result<Outcome, Memory>
-    ensures { Tells (list_proxies store.now) result }
+    ensures { IsOutcomeOrNoMemory (list_proxies store.now) result }
 {
     if !store.attributes.supports_proxy_offers {
         return Ok(Outcome::User(UserException::NotImplemented));

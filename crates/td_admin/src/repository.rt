@@ -8,8 +8,8 @@ ghost use Rattle.td_types.specs.Calls as types;
 ghost use Rattle.td_types.specs.Repository.{Repository};
 ghost use Rattle.td_register.specs.declared.refusal.Fault.TheVariants as fault;
 ghost use Rattle.td_register.specs.declared.refusal.Refusal.TheVariants as refusal;
-ghost use Rattle.td_register.specs.Judged.{Accepts, Tells};
-ghost use Rattle.td_admin.specs.RepositoryJudged.{IsAnswer, IsFullFault, IsOfChange};
+ghost use Rattle.td_register.specs.Judged.{AcceptsChange, IsOutcomeOrNoMemory};
+ghost use Rattle.td_admin.specs.RepositoryJudged.{IsRepositoryAnswer, IsFullFault, IsOfChange};
 ghost use Rattle.td_register.specs.Needs.{NeedsNone};
 ghost use Rattle.td_register.specs.Causes.{unless_full};
 ghost use Rattle.td_admin.specs.Repositories.{describe_type, exception_of, fully_describe_type, list_types, added_reply};
@@ -20,7 +20,8 @@ use td_cdr::{List, Memory, Text, Twin, copy_four};
 use td_exceptions::UserException;
 use td_ops::{Change, Outcome, Reply};
 use td_register::{
-    Accepted, ChangeReply, Fault, Refusal, entry_of, illegal_type, raised, refused, unknown_type,
+    Accepted, ChangeReply, Fault, Refusal, entry_of, illegal_type, raised, refusal_outcome,
+    unknown_type,
 };
 use td_store::Store;
 use td_types::{Judgement, RepoFault, TypesFault, TypesReply, halves};
@@ -32,8 +33,8 @@ use td_value::{IncarnationNumber, PropStruct, SpecifiedServiceTypes};
 ///
 /// `IllegalServiceType`, `ServiceTypeExists`; `IllegalPropertyName`, `DuplicatePropertyName`;
 /// `UnknownServiceType`, `DuplicateServiceTypeName`, `InterfaceTypeMismatch` for a supertype;
-/// `ValueTypeRedefinition`; IMP_LIMIT past a limit, and where no more changes are accepted; `Memory` for
-/// want of memory.
+/// `ValueTypeRedefinition`; IMP_LIMIT past a limit, and where no more changes are accepted; `Memory` when
+/// out of memory.
 pub fn add_type(
     alloc: Global,
     store: &mut Store,
@@ -43,7 +44,7 @@ pub fn add_type(
     props: List<PropStruct>,
     super_types: List<Text>,
 ) -> Result<Accepted, Fault>
-    ensures { Accepts (change.AddType name if_name props super_types)
+    ensures { AcceptsChange (change.AddType name if_name props super_types)
         (unless_full full
         (types_cause (types.add_type store.old.types name if_name props super_types))
         (added_reply store.old)
@@ -81,14 +82,14 @@ pub fn add_type(
 /// # Errors
 ///
 /// `IllegalServiceType`, `UnknownServiceType`; `HasSubTypes`; IMP_LIMIT where no more changes are accepted;
-/// `Memory` for want of memory.
+/// `Memory` when out of memory.
 pub fn remove_type(
     alloc: Global,
     store: &mut Store,
     full: bool,
     name: Text,
 ) -> Result<Accepted, Fault>
-    ensures { Accepts (change.RemoveType name)
+    ensures { AcceptsChange (change.RemoveType name)
         (unless_full full (types_cause (types.remove_type store.old.types name)) reply.Nothing
         (with_types store.old (types.remove_type store.old.types name))) store.old store.new
         result }
@@ -122,7 +123,7 @@ pub fn remove_type(
 ///
 /// `IllegalServiceType`, `UnknownServiceType`; `AlreadyMasked`; IMP_LIMIT where no more changes are accepted.
 pub fn mask_type(store: &mut Store, full: bool, name: Text) -> Result<Accepted, Fault>
-    ensures accepts { Accepts (change.MaskType name)
+    ensures accepts { AcceptsChange (change.MaskType name)
         (unless_full full (types_cause (types.mask_type store.old.types name)) reply.Nothing
         (with_types store.old (types.mask_type store.old.types name))) store.old store.new result }
     ensures free { NeedsNone result }
@@ -150,7 +151,7 @@ pub fn mask_type(store: &mut Store, full: bool, name: Text) -> Result<Accepted, 
 ///
 /// `IllegalServiceType`, `UnknownServiceType`; `NotMasked`; IMP_LIMIT where no more changes are accepted.
 pub fn unmask_type(store: &mut Store, full: bool, name: Text) -> Result<Accepted, Fault>
-    ensures accepts { Accepts (change.UnmaskType name)
+    ensures accepts { AcceptsChange (change.UnmaskType name)
         (unless_full full (types_cause (types.unmask_type store.old.types name)) reply.Nothing
         (with_types store.old (types.unmask_type store.old.types name))) store.old store.new result }
     ensures free { NeedsNone result }
@@ -174,7 +175,7 @@ pub fn unmask_type(store: &mut Store, full: bool, name: Text) -> Result<Accepted
 
 /// Why a call of the repository isn't done.
 fn fault_from(fault: TypesFault) -> Fault
-    ensures { IsAnswer (Err fault) (Err result) }
+    ensures { IsRepositoryAnswer (Err fault) (Err result) }
 {
     match fault {
         TypesFault::User(fault) => raised(exception_of(fault)),
@@ -196,7 +197,7 @@ fn full_fault(judged: Result<(), TypesFault>) -> Fault
 /// What the repository's answer to a change is as a reply.
 fn change_reply(answer: Result<TypesReply, TypesFault>) -> Result<ChangeReply, Fault>
     requires { IsOfChange answer }
-    ensures { IsAnswer answer result }
+    ensures { IsRepositoryAnswer answer result }
 {
     match answer {
         Ok(TypesReply::Added(incarnation)) => Ok(ChangeReply::incarnation(halves(incarnation))),
@@ -210,7 +211,7 @@ fn change_reply(answer: Result<TypesReply, TypesFault>) -> Result<ChangeReply, F
 
 /// What the repository's answer is as a reply.
 fn reply_from(answer: Result<TypesReply, TypesFault>) -> Result<Reply, Fault>
-    ensures { IsAnswer answer result }
+    ensures { IsRepositoryAnswer answer result }
 {
     match answer {
         Ok(reply) => Ok(reply_of(reply)),
@@ -294,13 +295,14 @@ fn number_of(incarnation: &IncarnationNumber) -> u64
 }
 
 /// What the repository's answer to a look is as an outcome.
-fn told(answer: Result<TypesReply, TypesFault>) -> Result<Outcome, Memory>
-    ensures { (comes : types.Comes) (r : Repository) → types.Answers comes r r answer →
-        Tells (outcome_of comes) result }
+fn outcome_of_reply(answer: Result<TypesReply, TypesFault>) -> Result<Outcome, Memory>
+    ensures { (comes : types.RepositoryResult) (r : Repository)
+        → types.AnswersRepositoryCall comes r r answer →
+        IsOutcomeOrNoMemory (outcome_of comes) result }
 {
     match reply_from(answer) {
         Ok(reply) => Ok(Outcome::Done(reply)),
-        Err(Fault::Refused(refusal)) => Ok(refused(refusal)),
+        Err(Fault::Refused(refusal)) => Ok(refusal_outcome(refusal)),
         Err(Fault::Memory) => Err(Memory),
     }
 }
@@ -309,34 +311,34 @@ fn told(answer: Result<TypesReply, TypesFault>) -> Result<Outcome, Memory>
 ///
 /// # Errors
 ///
-/// `Memory` for want of memory alone.
+/// `Memory` only when out of memory.
 #[tactic(auto, unfolding(crate::specs::Repositories::list_types))]
 pub fn list_types(store: &Store, which: &SpecifiedServiceTypes) -> Result<Outcome, Memory>
-    ensures { Tells (list_types store.now which.now) result }
+    ensures { IsOutcomeOrNoMemory (list_types store.now which.now) result }
 {
-    told(store.types.list(since(which)))
+    outcome_of_reply(store.types.list(since(which)))
 }
 
 /// A type with its own properties (describe_type).
 ///
 /// # Errors
 ///
-/// `Memory` for want of memory alone.
+/// `Memory` only when out of memory.
 #[tactic(auto, unfolding(crate::specs::Repositories::describe_type))]
 pub fn describe_type(store: &Store, name: &Text) -> Result<Outcome, Memory>
-    ensures { Tells (describe_type store.now name.now) result }
+    ensures { IsOutcomeOrNoMemory (describe_type store.now name.now) result }
 {
-    told(store.types.describe(name))
+    outcome_of_reply(store.types.describe(name))
 }
 
 /// A type with all its properties (fully_describe_type).
 ///
 /// # Errors
 ///
-/// `Memory` for want of memory alone.
+/// `Memory` only when out of memory.
 #[tactic(auto, unfolding(crate::specs::Repositories::fully_describe_type))]
 pub fn fully_describe_type(store: &Store, name: &Text) -> Result<Outcome, Memory>
-    ensures { Tells (fully_describe_type store.now name.now) result }
+    ensures { IsOutcomeOrNoMemory (fully_describe_type store.now name.now) result }
 {
-    told(store.types.fully_describe(name))
+    outcome_of_reply(store.types.fully_describe(name))
 }

@@ -3,7 +3,7 @@
 ghost use Rattle.std.specs.Prelude.{◌≡◌, None, MatchResult};
 ghost use Rattle.td_ops.specs.declared.call.Change.TheVariants as change;
 ghost use Rattle.td_ops.specs.declared.outcome.Reply.TheVariants as reply;
-ghost use Rattle.td_register.specs.Judged.{Accepts, IsMet};
+ghost use Rattle.td_register.specs.Judged.{AcceptsChange, IsMet};
 ghost use Rattle.td_register.specs.Causes.{unless_full};
 ghost use Rattle.td_admin.specs.Links.{modify_link_cause, with_rules};
 ghost use Rattle.td_register.specs.Needs.{NeedsNone};
@@ -57,7 +57,7 @@ pub fn modify_link(
     def_pass_on: FollowOption,
     limiting: FollowOption,
 ) -> Result<Accepted, Fault>
-    ensures accepts { Accepts (change.ModifyLink name def_pass_on limiting)
+    ensures accepts { AcceptsChange (change.ModifyLink name def_pass_on limiting)
         (unless_full full (modify_link_cause store.old name def_pass_on limiting) reply.Nothing
         (with_rules store.old name def_pass_on limiting)) store.old store.new result }
     ensures free { NeedsNone result }

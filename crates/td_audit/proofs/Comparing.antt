@@ -9,14 +9,14 @@ use Rattle.std.proofs.lemmas.List.{nil_from_length}
 use Rattle.std.proofs.lemmas.Slice.Eq.{bytes_eq-Decides}
 use Rattle.td_cdr.specs.Writing.{Draft}
 use Rattle.td_cdr.specs.declared.order.Order.{Order}
-use Rattle.td_codes.specs.Formats.{is_some}
-use Rattle.td_codes.specs.declared.reference.Ior.{Ior}
-use Rattle.td_codes.specs.declared.reference.Profile.{Profile}
-use Rattle.td_giop.specs.Written.{reply_start, sealed}
+use Rattle.td_typecode.specs.Formats.{is_nonempty}
+use Rattle.td_typecode.specs.declared.reference.Ior.{Ior}
+use Rattle.td_typecode.specs.declared.reference.Profile.{Profile}
+use Rattle.td_giop.specs.Written.{reply_start, seal_size}
 use Rattle.td_ior.specs.Nil.{is_nil, nil}
 use Rattle.td_iter.proofs.Greatest.{greatest_is_one}
 use Rattle.td_iter.proofs.Loading.{some-left}
-use Rattle.td_iter.specs.Batches.{Head, IsBatch, PutsBatch}
+use Rattle.td_iter.specs.Batches.{BatchHead, IsBatch, PutsBatch}
 use Rattle.td_iter.specs.Heads.{IsSmallReference, given_or_nil, offers_found}
 use Rattle.td_log.specs.Forms.{minor_of}
 use Rattle.td_log.specs.declared.message.Recorded.{Recorded}
@@ -28,7 +28,7 @@ use Rattle.td_ops.specs.declared.outcome.Outcome.TheVariants.{Done}
 use Rattle.td_ops.specs.declared.outcome.Reply.{Reply}
 use Rattle.td_value.specs.declared.structures.Offer.{Offer}
 use Rattle.td_walk.specs.declared.trace.Address.{Address}
-use Rattle.td_audit.specs.Replies.{HasBatch, begun, ends_so, found_with, spelled}
+use Rattle.td_audit.specs.Replies.{HasBatch, reply_head, ends_so, found_with, spelled_reply}
 
 -- ---- nil references
 
@@ -67,13 +67,13 @@ together true false e f = cc
 together false true e f = cc
 together false false e f = cc
 
-module _ {X : Type 0} (head : Ior → Head X) (told : List X → Ior → Reply)
+module _ {X : Type 0} (head : Ior → BatchHead X) (content : List X → Ior → Reply)
     (spells : (r : Ior) (items : List X) (more : Bool)
-    → head r items more ≡ reply_piece (told items (given_or_nil r more))) where
+    → head r items more ≡ reply_piece (content items (given_or_nil r more))) where
   -- a writer that was begun for the reply is as good as another
   batch-of : (form : ReplyForm) (n : ℕ) (items : List X) (r : Ior) (old : Draft) (k : ℕ)
       → old.bytes ≡ reply_start form.order (minor_of form.version) form.id 0 → old.order ≡ form.order
-      → IsBatch (head r) items old n k → IsBatch (head r) items (begun form) n k
+      → IsBatch (head r) items old n k → IsBatch (head r) items (reply_head form) n k
   batch-of form n items r old k bytes order b =
       let P : List ℕ → Order → Type 0 = λ bs o. IsBatch (head r) items (record { bytes = bs; order = o; room = 0 }) n k
       in subst (λ (o : Order). P (reply_start form.order (minor_of form.version) form.id 0) o) order
@@ -83,79 +83,79 @@ module _ {X : Type 0} (head : Ior → Head X) (told : List X → Ior → Reply)
   pub first-written : (form : ReplyForm) (n : ℕ) (items : List X) (r : Ior) (old new : Draft) (k : ℕ)
       → old.bytes ≡ reply_start form.order (minor_of form.version) form.id 0 → old.order ≡ form.order
       → new.order ≡ old.order → PutsBatch (head r) items n old new k
-      → sealed new.order new.bytes
-      ≡ spelled form (Done (told (take k items) (given_or_nil r (is_some (drop k items)))))
+      → seal_size new.order new.bytes
+      ≡ spelled_reply form (Done (content (take k items) (given_or_nil r (is_nonempty (drop k items)))))
   first-written form n items r old new k bytes order same p =
       let start = reply_start form.order (minor_of form.version) form.id 0 in
-      let piece : head r (take k items) (is_some (drop k items))
-      ≡ reply_piece (told (take k items) (given_or_nil r (is_some (drop k items)))) =
-      spells r (take k items) (is_some (drop k items)) in
-      ap (λ (o : Order). sealed o new.bytes) (same ∙ order)
-      ∙ ap (sealed form.order) (p.bytes
-      ∙ ap (λ (bs : List ℕ). bs ++ head r (take k items) (is_some (drop k items)) old.order (length bs)) bytes
-      ∙ ap (λ (o : Order). start ++ head r (take k items) (is_some (drop k items)) o (length start)) order
+      let piece : head r (take k items) (is_nonempty (drop k items))
+      ≡ reply_piece (content (take k items) (given_or_nil r (is_nonempty (drop k items)))) =
+      spells r (take k items) (is_nonempty (drop k items)) in
+      ap (λ (o : Order). seal_size o new.bytes) (same ∙ order)
+      ∙ ap (seal_size form.order) (p.bytes
+      ∙ ap (λ (bs : List ℕ). bs ++ head r (take k items) (is_nonempty (drop k items)) old.order (length bs)) bytes
+      ∙ ap (λ (o : Order). start ++ head r (take k items) (is_nonempty (drop k items)) o (length start)) order
       ∙ ap (λ (q : Order → ℕ → List ℕ). start ++ q form.order (length start)) piece)
 
   written : (form : ReplyForm) (n : ℕ) (items : List X) (r : Ior) (old new : Draft) (k : ℕ)
       → old.bytes ≡ reply_start form.order (minor_of form.version) form.id 0 → old.order ≡ form.order
-      → new.order ≡ old.order → PutsBatch (head r) items n old new k → is_nil r ≡ not (is_some (drop k items))
-      → sealed new.order new.bytes ≡ spelled form (Done (told (take k items) r))
+      → new.order ≡ old.order → PutsBatch (head r) items n old new k → is_nil r ≡ not (is_nonempty (drop k items))
+      → seal_size new.order new.bytes ≡ spelled_reply form (Done (content (take k items) r))
   written form n items r old new k bytes order same p ends =
       first-written form n items r old new k bytes order same p
-      ∙ ap (λ (z : Ior). spelled form (Done (told (take k items) z))) (given-is r (is_some (drop k items)) ends)
+      ∙ ap (λ (z : Ior). spelled_reply form (Done (content (take k items) z))) (given-is r (is_nonempty (drop k items)) ends)
 
   module _ (form : ReplyForm) (n : ℕ) (items : List X) (reply : Recorded) (old new : Draft) (k : ℕ)
       (bytes : old.bytes ≡ reply_start form.order (minor_of form.version) form.id 0) (order : old.order ≡ form.order)
       (same : new.order ≡ old.order) (p : PutsBatch (head reply.iterator) items n old new k)
       (small : IsSmallReference reply.iterator) where
-    pub has-batch : ends_so (is_some (drop k items)) reply (sealed new.order new.bytes) ≡ true
-        → HasBatch head told form n items reply
-    has-batch e = by (beq (is_nil reply.iterator) (is_some (drop k items))) refl e where
-      by : (b : Bool) → beq (is_nil reply.iterator) (is_some (drop k items)) ≡ b
-          → (if b then false else bytes_eq reply.bytes (sealed new.order new.bytes)) ≡ true
-          → HasBatch head told form n items reply
+    pub has-batch : ends_so (is_nonempty (drop k items)) reply (seal_size new.order new.bytes) ≡ true
+        → HasBatch head content form n items reply
+    has-batch e = by (beq (is_nil reply.iterator) (is_nonempty (drop k items))) refl e where
+      by : (b : Bool) → beq (is_nil reply.iterator) (is_nonempty (drop k items)) ≡ b
+          → (if b then false else bytes_eq reply.bytes (seal_size new.order new.bytes)) ≡ true
+          → HasBatch head content form n items reply
       by true d f = absurd cc
       by false d f =
-          let ends = apart (is_nil reply.iterator) (is_some (drop k items)) d in record {
+          let ends = apart (is_nil reply.iterator) (is_nonempty (drop k items)) d in record {
             small = small;
             count = k;
             batch = batch-of form n items reply.iterator old k bytes order p.is_batch;
             ends = ends;
             bytes =
-                (bytes_eq-Decides reply.bytes (sealed new.order new.bytes)).0 f
+                (bytes_eq-Decides reply.bytes (seal_size new.order new.bytes)).0 f
                 ∙ written form n items reply.iterator old new k bytes order same p ends;
           }
 
-    pub has-none : ends_so (is_some (drop k items)) reply (sealed new.order new.bytes) ≡ false
-        → HasBatch head told form n items reply → ⊥
-    has-none e h = by (beq (is_nil reply.iterator) (is_some (drop k items))) refl e where
+    pub has-none : ends_so (is_nonempty (drop k items)) reply (seal_size new.order new.bytes) ≡ false
+        → HasBatch head content form n items reply → ⊥
+    has-none e h = by (beq (is_nil reply.iterator) (is_nonempty (drop k items))) refl e where
       one : h.count ≡ k
       one = greatest_is_one h.batch (batch-of form n items reply.iterator old k bytes order p.is_batch)
 
-      ends : is_nil reply.iterator ≡ not (is_some (drop k items))
-      ends = subst (λ (j : ℕ). is_nil reply.iterator ≡ not (is_some (drop j items))) one h.ends
+      ends : is_nil reply.iterator ≡ not (is_nonempty (drop k items))
+      ends = subst (λ (j : ℕ). is_nil reply.iterator ≡ not (is_nonempty (drop j items))) one h.ends
 
-      is : reply.bytes ≡ sealed new.order new.bytes
+      is : reply.bytes ≡ seal_size new.order new.bytes
       is =
-          subst (λ (j : ℕ). reply.bytes ≡ spelled form (Done (told (take j items) reply.iterator))) one h.bytes
+          subst (λ (j : ℕ). reply.bytes ≡ spelled_reply form (Done (content (take j items) reply.iterator))) one h.bytes
           ∙ sym (written form n items reply.iterator old new k bytes order same p ends)
 
-      by : (b : Bool) → beq (is_nil reply.iterator) (is_some (drop k items)) ≡ b
-          → (if b then false else bytes_eq reply.bytes (sealed new.order new.bytes)) ≡ false → ⊥
-      by true d f = together (is_nil reply.iterator) (is_some (drop k items)) d ends
+      by : (b : Bool) → beq (is_nil reply.iterator) (is_nonempty (drop k items)) ≡ b
+          → (if b then false else bytes_eq reply.bytes (seal_size new.order new.bytes)) ≡ false → ⊥
+      by true d f = together (is_nil reply.iterator) (is_nonempty (drop k items)) d ends
       by false d f =
-          let yes : bytes_eq reply.bytes (sealed new.order new.bytes) ≡ true =
-          (bytes_eq-Decides reply.bytes (sealed new.order new.bytes)).1 is in cc
+          let yes : bytes_eq reply.bytes (seal_size new.order new.bytes) ≡ true =
+          (bytes_eq-Decides reply.bytes (seal_size new.order new.bytes)).1 is in cc
 
     -- the answer to whether a reply has the batch
-    pub tells-batch : (b more : Bool) (message : List ℕ) → more ≡ is_some (drop k items)
-        → message ≡ sealed new.order new.bytes → b ≡ ends_so more reply message
-        → MatchBool b (HasBatch head told form n items reply) (HasBatch head told form n items reply → ⊥)
+    pub tells-batch : (b more : Bool) (message : List ℕ) → more ≡ is_nonempty (drop k items)
+        → message ≡ seal_size new.order new.bytes → b ≡ ends_so more reply message
+        → MatchBool b (HasBatch head content form n items reply) (HasBatch head content form n items reply → ⊥)
     tells-batch true more message m e h =
-        has-batch (ap (λ (t : Bool). ends_so t reply (sealed new.order new.bytes)) (sym m)
+        has-batch (ap (λ (t : Bool). ends_so t reply (seal_size new.order new.bytes)) (sym m)
         ∙ (ap (ends_so more reply) (sym e) ∙ sym h))
     tells-batch false more message m e h =
-        has-none (ap (λ (t : Bool). ends_so t reply (sealed new.order new.bytes)) (sym m)
+        has-none (ap (λ (t : Bool). ends_so t reply (seal_size new.order new.bytes)) (sym m)
         ∙ (ap (ends_so more reply) (sym e) ∙ sym h))
 
 -- the reply that has the first batch, as a session of its own writes it
@@ -164,14 +164,14 @@ pub first-batch : (given items : List Offer) (limits : List (List ℕ)) (home : 
     → r ≡ offer_iterator home name 1
     → old.bytes ≡ reply_start form.order (minor_of form.version) form.id 0 → old.order ≡ form.order
     → new.order ≡ old.order → PutsBatch (offers_found r limits) given m old new k
-    → IsBatch (offers_found (offer_iterator home name 1) limits) items (begun form) n k
-    × (sealed new.order new.bytes ≡ spelled form (first_offers home name 1 limits items k))
+    → IsBatch (offers_found (offer_iterator home name 1) limits) items (reply_head form) n k
+    × (seal_size new.order new.bytes ≡ spelled_reply form (first_offers home name 1 limits items k))
 first-batch given items limits home name form m n r old new k same-items same-n is bytes order same p =
     let spells : (q : Ior) (xs : List Offer) (more : Bool)
     → offers_found q limits xs more ≡ reply_piece (found_with limits xs (given_or_nil q more)) = λ q xs more. refl in
-    let P : List Offer → ℕ → Ior → Type 0 = λ xs j q. IsBatch (offers_found q limits) xs (begun form) j k
-    × (sealed new.order new.bytes
-    ≡ spelled form (Done (found_with limits (take k xs) (given_or_nil q (is_some (drop k xs)))))) in
+    let P : List Offer → ℕ → Ior → Type 0 = λ xs j q. IsBatch (offers_found q limits) xs (reply_head form) j k
+    × (seal_size new.order new.bytes
+    ≡ spelled_reply form (Done (found_with limits (take k xs) (given_or_nil q (is_nonempty (drop k xs)))))) in
     let first : P given m r = (
       batch-of (λ (q : Ior). offers_found q limits) (found_with limits) spells form m given r old k bytes order
           p.is_batch,
@@ -182,5 +182,5 @@ first-batch given items limits home name form m n r old new k same-items same-n 
     (subst (λ (j : ℕ). P given j (offer_iterator home name 1)) same-n (subst (λ (q : Ior). P given m q) is first))
 
 -- what the writer's count tells
-pub more-is : {X : Type 0} (k : ℕ) (items : List X) → nat_lt k (length items) ≡ is_some (drop k items)
+pub more-is : {X : Type 0} (k : ℕ) (items : List X) → nat_lt k (length items) ≡ is_nonempty (drop k items)
 more-is k items = sym (some-left k items)

@@ -3,20 +3,21 @@ use Rattle.std.proofs.Common.{◌≡◌, ℕ, zero, suc, Bool, true, false, List
 use Rattle.std.proofs.Common.{Option, None, Some, refl, sym, subst, arith}
 use Rattle.td_lookup.proofs.Limited.{answer_limits}
 use Rattle.td_net.specs.Supplies.{words_from}
-use Rattle.td_net.specs.Worlds.{World, Becomes, Taken, Refused, Moved, Closing, answer_at, answer_by, answer_in_stage}
-use Rattle.td_net.specs.Worlds.{ask_at, begun_by, change_at, deliver_at, deliver_in, deliver_to, delivered}
-use Rattle.td_net.specs.Worlds.{delivery_of, hand_on, handed, opened, with_begun}
+use Rattle.td_net.specs.Worlds.{World, Becomes, EventResult, Refused, Moved, Closing, answer_at, answer_by}
+use Rattle.td_net.specs.Worlds.{answer_in_stage}
+use Rattle.td_net.specs.Worlds.{ask_at, begun_by, change_at, deliver_at, deliver_in, deliver_to, deliver_call}
+use Rattle.td_net.specs.Worlds.{delivery_of, hand_on, hand_answer, open_call, with_begun}
 use Rattle.td_net.specs.Worlds.{lose_at}
-use Rattle.td_net.specs.Worlds.{lose_by, placed_by, resumed, resumed_in, sent, step_of, value_at, value_in}
+use Rattle.td_net.specs.Worlds.{lose_by, placed_by, resume_caller, resumed_in, sent, step_of, value_at, value_in}
 use Rattle.td_net.specs.declared.call.Call.{Call}
 use Rattle.td_net.specs.declared.call.Stage.{Stage}
 use Rattle.td_net.specs.declared.call.Stage.TheVariants.{Sent, Running, Evaluating, Waiting, Ended}
-use Rattle.td_net.specs.declared.call.Step.{Step}
+use Rattle.td_net.specs.declared.call.QuestionStep.{QuestionStep}
 use Rattle.td_net.specs.declared.event.Event.{Event}
 use Rattle.td_net.specs.declared.event.Event.TheVariants.{Change as Changed, Ask, Deliver, Value, Answer, Lose}
-use Rattle.td_net.specs.declared.settling.Pending.{Pending}
-use Rattle.td_net.specs.declared.settling.Pending.TheVariants as pending
-use Rattle.td_codes.specs.declared.code.Any.{Any}
+use Rattle.td_net.specs.declared.advancing.Pending.{Pending}
+use Rattle.td_net.specs.declared.advancing.Pending.TheVariants as pending
+use Rattle.td_typecode.specs.declared.code.Any.{Any}
 use Rattle.td_ops.specs.declared.call.Change.{Change}
 use Rattle.td_ops.specs.declared.call.Query.{Query}
 use Rattle.td_store.specs.declared.local.Local.{Local}
@@ -46,19 +47,19 @@ limited-at (x ∷ xs) (suc c) k all is = limited-at xs c k all.1 is
 
 -- ---- what an event leaves
 
-abbrev TakenLimited : Taken → Type 0
+abbrev TakenLimited : EventResult → Type 0
 TakenLimited (Refused f) = Unit {0}
 TakenLimited (Moved v) = AreLimited v.calls
 TakenLimited (Closing v c k l rs ss) = AreLimited v.calls
 
-becomes-limited : (w u : World) (t : Taken) → AreLimited w.calls → TakenLimited t → Becomes w t u → AreLimited u.calls
+becomes-limited : (w u : World) (t : EventResult) → AreLimited w.calls → TakenLimited t → Becomes w t u → AreLimited u.calls
 becomes-limited w u (Refused f) all h b = subst (λ (z : World). AreLimited z.calls) (sym b) all
 becomes-limited w u (Moved v) all h b = subst (λ (z : World). AreLimited z.calls) (sym b) h
 becomes-limited w u (Closing v c k l rs ss) all h b =
     subst (λ (z : World). AreLimited z.calls) (sym b.2)
     (limited-set v.calls c _ h (answer_limits l rs (words_from v.words v.drawn) b.0 b.1))
 
-placed-limited : (w : World) (c : ℕ) (k : Call) (l : Local) (rs : List StepAnswer) (ss : List Step) (p : Pending)
+placed-limited : (w : World) (c : ℕ) (k : Call) (l : Local) (rs : List StepAnswer) (ss : List QuestionStep) (p : Pending)
     → AreLimited w.calls → TakenLimited (placed_by w c k l rs ss p)
 placed-limited w c k l rs ss pending.Nothing all = all
 placed-limited w c k l rs ss pending.Value all = limited-set w.calls c _ all tt
@@ -83,7 +84,7 @@ to-limited : (w : World) (c : ℕ) (k : Call) (t : Option PlainTrader) → AreLi
     → TakenLimited (deliver_to w c k t)
 to-limited w c k None all = tt
 to-limited w c k (Some t) all =
-    begun-limited (with_begun w k.target t k.query) c (delivered k (delivery_of w.clock t)) (begin_at t k.query) all
+    begun-limited (with_begun w k.target t k.query) c (deliver_call k (delivery_of w.clock t)) (begin_at t k.query) all
 
 in-limited : (w : World) (c : ℕ) (k : Call) (s : Stage) → AreLimited w.calls → TakenLimited (deliver_in w c k s)
 in-limited w c k Sent all = to-limited w c k (slice_get w.traders k.target) all
@@ -101,7 +102,7 @@ ask-limited : (w : World) (n : ℕ) (q : Query) (t : Option PlainTrader) → Are
 ask-limited w n q None all = tt
 ask-limited w n q (Some t) all =
     let k = sent n q (length w.calls) None in
-    to-limited (opened w k) (length w.calls) k (Some t) (limited-more w.calls k all tt)
+    to-limited (open_call w k) (length w.calls) k (Some t) (limited-more w.calls k all tt)
 
 value-in-limited : (w : World) (c : ℕ) (k : Call) (v : Option Any) (s : Stage) → AreLimited w.calls
     → TakenLimited (value_in w c k v s)
@@ -116,7 +117,7 @@ value-limited : (w : World) (c : ℕ) (v : Option Any) (k : Option Call) → Are
 value-limited w c v None all = tt
 value-limited w c v (Some k) all = value-in-limited w c k v k.stage all
 
-resumed-in-limited : (w : World) (p : ℕ) (k : Call) (s : Step) (r : StepAnswer) (stage : Stage) → AreLimited w.calls
+resumed-in-limited : (w : World) (p : ℕ) (k : Call) (s : QuestionStep) (r : StepAnswer) (stage : Stage) → AreLimited w.calls
     → TakenLimited (resumed_in w p k s r stage)
 resumed-in-limited w p k s r Sent all = all
 resumed-in-limited w p k s r Running all = all
@@ -124,15 +125,15 @@ resumed-in-limited w p k s r (Evaluating f) all = all
 resumed-in-limited w p k s r (Waiting f d) all = placed-limited w p k f.local _ _ _ all
 resumed-in-limited w p k s r (Ended v) all = all
 
-resumed-limited : (w : World) (p : ℕ) (s : Step) (r : StepAnswer) (k : Option Call) → AreLimited w.calls
-    → TakenLimited (resumed w p s r k)
+resumed-limited : (w : World) (p : ℕ) (s : QuestionStep) (r : StepAnswer) (k : Option Call) → AreLimited w.calls
+    → TakenLimited (resume_caller w p s r k)
 resumed-limited w p s r None all = all
 resumed-limited w p s r (Some k) all = resumed-in-limited w p k s r k.stage all
 
-hand-limited : (w : World) (d : ℕ) (k : Call) (p : ℕ) (s : Step) (r : StepAnswer) → AreLimited w.calls
+hand-limited : (w : World) (d : ℕ) (k : Call) (p : ℕ) (s : QuestionStep) (r : StepAnswer) → AreLimited w.calls
     → LimitedAt k.stage → TakenLimited (hand_on w d k p s r)
 hand-limited w d k p s r all h =
-    resumed-limited (handed w d k) p s r (slice_get (handed w d k).calls p)
+    resumed-limited (hand_answer w d k) p s r (slice_get (hand_answer w d k).calls p)
     (limited-set w.calls d (record k { handed = true }) all h)
 
 answer-stage-limited : (w : World) (d : ℕ) (k : Call) (p : ℕ) (s : Stage) → AreLimited w.calls → LimitedAt k.stage

@@ -28,4 +28,4 @@ openings = record { words = refl; none = refl }
 
 pub making : (q : Query) (l : Local) → WorkedMaking q l
 unfolding digits
-making q l = record { inner = refl; next = refl; none = refl; told = refl }
+making q l = record { inner = refl; next = refl; none = refl; content = refl }

@@ -12,10 +12,10 @@ use Rattle.td_ops.specs.declared.outcome.Outcome.TheVariants.{Done, User, System
 use Rattle.td_ops.specs.declared.outcome.Reply.{Reply}
 use Rattle.td_register.specs.declared.history.Accepted.{Accepted}
 use Rattle.td_trader.specs.PlainTraders.{PlainTrader, outcome_of}
-use Rattle.td_audit.specs.Replies.{spelled}
-use Rattle.td_audit.specs.Verdicts.{Differing, Stops}
+use Rattle.td_audit.specs.Replies.{spelled_reply}
+use Rattle.td_audit.specs.Verdicts.{IsRightOrDiffers, Stops}
 use Rattle.td_audit.specs.declared.verdict.Cause.TheVariants.{Net, Refused}
-use Rattle.td_audit.specs.declared.verdict.Stop.{Stop}
+use Rattle.td_audit.specs.declared.verdict.AuditStop.{AuditStop}
 
 -- how many changes a trader has accepted
 abbrev pub point_at : World → (trader : ℕ) → Option ℕ
@@ -25,27 +25,28 @@ abbrev pub reply_in : Option Accepted → Option Reply
 reply_in (Some e) = Some e.reply
 reply_in None = None
 
-abbrev pub told_in : (place : ℕ) → PlainTrader → Option Reply
-told_in place t = reply_in (slice_get t.history place)
+abbrev pub content_in : (place : ℕ) → PlainTrader → Option Reply
+content_in place t = reply_in (slice_get t.history place)
 
 -- what the change at this place of a trader's history was answered with
-abbrev pub told_at : World → (trader place : ℕ) → Option Reply
-told_at w n place = option_and_then (told_in place) (slice_get w.traders n)
+abbrev pub reply_at_place : World → (trader place : ℕ) → Option Reply
+reply_at_place w n place = option_and_then (content_in place) (slice_get w.traders n)
 
 -- an accepted change passes with its reply, and a refused one doesn't
 abbrev pub ChangesAs : World → (n : ℕ) → ReplyForm → Change → Recorded → (outcome : Outcome)
-    → Result (Unit {0}) Stop → World → Type 0
-ChangesAs w n form c reply (Done told) r u =
-    Stops ((reply.bytes ≡ spelled form (Done told)) × Becomes w (step_of w (event.Change n c)) u)
-    (Differing (reply.bytes ≡ spelled form (Done told))) r
+    → Result (Unit {0}) AuditStop → World → Type 0
+ChangesAs w n form c reply (Done content) r u =
+    Stops ((reply.bytes ≡ spelled_reply form (Done content))
+    × Becomes w (step_of w (event.Change n c)) u)
+    (IsRightOrDiffers (reply.bytes ≡ spelled_reply form (Done content))) r
 ChangesAs w n form c reply (User x) r u = Stops ⊥ (λ cause. cause ≡ Refused) r
 ChangesAs w n form c reply (System kind minor completion) r u = Stops ⊥ (λ cause. cause ≡ Refused) r
 
 abbrev pub ChangesIn : World → (n : ℕ) → ReplyForm → Change → Recorded → Option PlainTrader
-    → Result (Unit {0}) Stop → World → Type 0
+    → Result (Unit {0}) AuditStop → World → Type 0
 ChangesIn w n form c reply None r u = Stops ⊥ (λ cause. cause ≡ Net NoTrader) r
 ChangesIn w n form c reply (Some t) r u = ChangesAs w n form c reply (outcome_of t c) r u
 
-abbrev pub ChangesTo : World → (n : ℕ) → ReplyForm → Change → Recorded → Result (Unit {0}) Stop
+abbrev pub ChangesTo : World → (n : ℕ) → ReplyForm → Change → Recorded → Result (Unit {0}) AuditStop
     → World → Type 0
 ChangesTo w n form c reply r u = ChangesIn w n form c reply (slice_get w.traders n) r u

@@ -1,12 +1,12 @@
 -- The register of a link that a log adds: the target's own where it is a trader of the network, and else nil. A target
 -- without an IIOP profile has none (OMG's Trading Object Service, interface Link, add_link).
 use Rattle.std.specs.Prelude.{ℕ, List, if◌then◌else◌, is_some, Option, None, Some}
-use Rattle.td_codes.specs.declared.reference.Ior.{Ior}
+use Rattle.td_typecode.specs.declared.reference.Ior.{Ior}
 use Rattle.td_ior.specs.Nil.{nil}
 use Rattle.td_ior.specs.Profiles.{iiop_of}
 use Rattle.td_log.specs.Lines.{trader_named}
 use Rattle.td_objects.specs.References.{register_reference}
-use Rattle.td_places.specs.Targets.{home_key}
+use Rattle.td_targets.specs.Targets.{home_key}
 use Rattle.td_value.specs.declared.key.Kind.{Kind}
 use Rattle.td_value.specs.declared.key.Kind.TheVariants.{Lookup}
 use Rattle.td_value.specs.declared.key.ObjectKey.{ObjectKey}

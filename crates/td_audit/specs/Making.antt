@@ -6,7 +6,7 @@ use Rattle.td_cdr.specs.Lawful.{AreOctets}
 use Rattle.td_cdr.specs.Names.{trader_name}
 use Rattle.td_cdr.specs.declared.order.Order.TheVariants.{Big}
 use Rattle.td_drill.specs.Drills.{drill_query}
-use Rattle.td_giop.specs.Written.{request_start, sealed}
+use Rattle.td_giop.specs.Written.{request_start, seal_size}
 use Rattle.td_ior.specs.Keys.{written_key}
 use Rattle.td_iter.specs.Batches.{IsBatch}
 use Rattle.td_iter.specs.Heads.{offers_found}
@@ -30,7 +30,7 @@ use Rattle.td_value.specs.declared.key.ObjectKey.{ObjectKey}
 use Rattle.td_walk.specs.declared.trace.Address.{Address}
 use Rattle.td_walk.specs.declared.trace.Visit.{Visit}
 use Rattle.td_walk.specs.declared.trace.Visit.TheVariants as visit
-use Rattle.td_audit.specs.Replies.{begun, spelled}
+use Rattle.td_audit.specs.Replies.{reply_head, spelled_reply}
 
 -- ---- the messages
 
@@ -43,16 +43,17 @@ abbrev pub request_to : (name : List ℕ) → List ℕ
 request_to name =
     let key : ObjectKey = record { trader = name; kind = Lookup } in
     let head : List ℕ = request_start Big 0 1 true (written_key key) (codes "query") in
-    sealed Big (head ++ call_piece (call.Query drill_query) Big (length head))
+    seal_size Big (head ++ call_piece (call.Query drill_query) Big (length head))
 
 -- What a query is answered with whose visit came to this, as a session of its own answers it: the reference is that of
 -- the session's first iterator.
-abbrev pub Answers : Address → (name : List ℕ) → Visit → Outcome → Type 0
-Answers home name (visit.Refused r) o = o ≡ r
-Answers home name (visit.Answered a max_list) o =
+abbrev pub IsOutcomeOfVisit : Address → (name : List ℕ) → Visit → Outcome → Type 0
+IsOutcomeOfVisit home name (visit.Refused r) o = o ≡ r
+IsOutcomeOfVisit home name (visit.Answered a max_list) o =
     (count : ℕ)
     × IsBatch (offers_found (offer_iterator home name 1) a.limits)
-    (map (chosen drill_query.desired) a.offers) (begun form) (min drill_query.how_many max_list)
+    (map (chosen drill_query.desired) a.offers) (reply_head form)
+    (min drill_query.how_many max_list)
     count
     × (o ≡ first_offers home name 1 a.limits (map (chosen drill_query.desired) a.offers) count)
 
@@ -71,12 +72,12 @@ abbrev pub answer_line : (c : ℕ) → List ℕ
 answer_line c = codes "answer " ++ decimal c
 
 abbrev pub reply_line : (c : ℕ) → Outcome → List ℕ
-reply_line c o = codes "reply " ++ decimal c ++ codes " " ++ encode_lower (spelled form o)
+reply_line c o = codes "reply " ++ decimal c ++ codes " " ++ encode_lower (spelled_reply form o)
 
 -- each line with its line feed
-abbrev pub lines_told : List (List ℕ) → List ℕ
-lines_told [] = []
-lines_told (line ∷ lines) = line ++ 10 ∷ lines_told lines
+abbrev pub text_of_lines : List (List ℕ) → List ℕ
+text_of_lines [] = []
+text_of_lines (line ∷ lines) = line ++ 10 ∷ text_of_lines lines
 
 -- ---- the events
 
@@ -85,9 +86,9 @@ abbrev pub inward : (go : ℕ → ℕ) → (c : ℕ) → Option CallState → �
 inward go c (Some (state.Waiting d)) = go d
 inward go c other = c
 
-abbrev pub innermost : (steps : ℕ) → List Call → (c : ℕ) → ℕ
-innermost zero calls c = c
-innermost (suc n) calls c = inward (innermost n calls) c (state_at calls c)
+abbrev pub innermost_call : (steps : ℕ) → List Call → (c : ℕ) → ℕ
+innermost_call zero calls c = c
+innermost_call (suc n) calls c = inward (innermost_call n calls) c (state_at calls c)
 
 -- what comes next for a call that waits for no other
 pub record Next : Type 0 where
@@ -102,39 +103,44 @@ next_in c (Some state.Ended) = Some (record { event = event.Answer c; line = ans
 next_in c other = None
 
 -- the event is accepted
-pub record Accepts (w : World) (e : Event) (u : World) : Type 0 where
+pub record AcceptsEvent (w : World) (e : Event) (u : World) : Type 0 where
   pub accepted : fault_of w e ≡ None
   pub becomes : Becomes w (step_of w e) u
 
 -- The calls of an Ask go on, the innermost first, until its own has ended.
-pub data Follows (root : ℕ) : World → List (List ℕ) → Visit → World → Type 0 where
-  ended : {w : World} {v : Visit} → visit_at w.calls root ≡ Some v → Follows root w [] v w
+pub data RunsCalls (root : ℕ) : World → List (List ℕ) → Visit → World → Type 0 where
+  ended : {w : World} {v : Visit} → visit_at w.calls root ≡ Some v → RunsCalls root w [] v w
   goes : {w u x : World} {lines : List (List ℕ)} {v : Visit} (next : Next) → visit_at w.calls root
       ≡ None
-      → next_in (innermost (length w.calls) w.calls root)
-      (state_at w.calls (innermost (length w.calls) w.calls root))
+      → next_in (innermost_call (length w.calls) w.calls root)
+      (state_at w.calls (innermost_call (length w.calls) w.calls root))
       ≡ Some next
-      → Accepts w next.event u → Follows root u lines v x → Follows root w (next.line ∷ lines) v x
+      → AcceptsEvent w next.event u → RunsCalls root u lines v x
+      → RunsCalls root w (next.line ∷ lines) v x
 
 -- The traders of these names, from the number n on, are asked one after the other: those that a key can name. The
 -- messages of a log are octets.
-pub data AsksAll (home : Address) : World → (n : ℕ) → (names : List (List ℕ)) → List (List ℕ)
+pub data QueriesTraders (home : Address) : World → (n : ℕ) → (names : List (List ℕ)) → List (List ℕ)
     → World → Type 0 where
-  none : {w : World} {n : ℕ} → AsksAll home w n [] [] w
+  none : {w : World} {n : ℕ} → QueriesTraders home w n [] [] w
   passes : {w y : World} {n : ℕ} {name : List ℕ} {names lines : List (List ℕ)} → trader_name name
-      ≡ false → AsksAll home w (n + 1) names lines y → AsksAll home w n (name ∷ names) lines y
+      ≡ false → QueriesTraders home w (n + 1) names lines y → QueriesTraders home w n
+      (name ∷ names) lines y
   more : {w u x y : World} {n : ℕ} {name : List ℕ} {names : List (List ℕ)}
       {lines others : List (List ℕ)} {v : Visit} (o : Outcome) → trader_name name ≡ true
-      → AreOctets (request_to name) → Accepts w (event.Ask n drill_query) u
-      → Follows (length w.calls) u lines v x → Answers home name v o → AreOctets (spelled form o)
-      → AsksAll home x (n + 1) names others y
-      → AsksAll home w n (name ∷ names) (ask_line name ∷ lines ++ reply_line (length w.calls) o
+      → AreOctets (request_to name) → AcceptsEvent w (event.Ask n drill_query) u
+      → RunsCalls (length w.calls) u lines v x → IsOutcomeOfVisit home name v o
+      → AreOctets (spelled_reply form o)
+      → QueriesTraders home x (n + 1) names others y
+      → QueriesTraders home w n (name ∷ names) (ask_line name ∷ lines
+      ++ reply_line (length w.calls) o
       ∷ others) y
 
 -- This is the log of a network of these traders.
 pub record IsLog (traders : List PlainTrader) (home : Address) (log : List ℕ) : Type 0 where
   pub lines : List (List ℕ)
   pub later : World
-  pub asked : AsksAll home (start traders home []) 0 (map (λ (t : PlainTrader). t.name) traders)
+  pub asked : QueriesTraders home (start traders home []) 0
+      (map (λ (t : PlainTrader). t.name) traders)
       lines later
-  pub told : log ≡ lines_told lines
+  pub content : log ≡ text_of_lines lines

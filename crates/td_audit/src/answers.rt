@@ -2,16 +2,16 @@
 
 ghost use Rattle.std.specs.Prelude.{◌≡◌, IfOk, MatchBool, map, min};
 ghost use Rattle.td_audit.specs.Answers.{RepliesTo};
-ghost use Rattle.td_audit.specs.Events.{IsSound};
+ghost use Rattle.td_audit.specs.Events.{IsWithinLimits};
 ghost use Rattle.td_audit.specs.Replies.{HasOffers, IsVisitReply};
-ghost use Rattle.td_audit.specs.Verdicts.{Compares, Judges};
+ghost use Rattle.td_audit.specs.Verdicts.{Compares, IsVerdict};
 ghost use Rattle.td_iter.specs.Heads.{AreLimits};
 ghost use Rattle.td_lookup.specs.Choosing.{chosen};
-ghost use Rattle.td_lookup.specs.Telling.{HasLimits};
+ghost use Rattle.td_lookup.specs.Answering.{HasLimits};
 
 use crate::asked::{AskedQuery, asked_of};
 use crate::replies::{compare, has_offers};
-use crate::verdict::{Cause, Stop};
+use crate::verdict::{AuditStop, Cause};
 use std::alloc::Global;
 use td_cdr::{Memory, Twin};
 use td_log::Recorded;
@@ -20,13 +20,13 @@ use td_net::Net;
 use td_walk::{SubAnswer, Visit};
 
 /// A comparison that was made.
-pub(crate) fn differ_unless(same: Result<bool, Memory>) -> Result<(), Stop>
-    ensures { Judges same result }
+pub(crate) fn differ_unless(same: Result<bool, Memory>) -> Result<(), AuditStop>
+    ensures { IsVerdict same result }
 {
     match same {
         Ok(true) => Ok(()),
-        Ok(false) => Err(Stop::At(Cause::Differs)),
-        Err(Memory) => Err(Stop::Memory),
+        Ok(false) => Err(AuditStop::At(Cause::Differs)),
+        Err(Memory) => Err(AuditStop::Memory),
     }
 }
 
@@ -37,16 +37,16 @@ pub(crate) fn reply(
     asked: &[AskedQuery],
     call: usize,
     reply: &Recorded,
-) -> Result<(), Stop>
-    requires { IsSound net.now }
+) -> Result<(), AuditStop>
+    requires { IsWithinLimits net.now }
     ensures { RepliesTo net.now asked.now call reply.now result }
 {
     let Some(asked) = asked_of(asked, call) else {
-        return Err(Stop::At(Cause::NotEnded));
+        return Err(AuditStop::At(Cause::NotEnded));
     };
     match net.answer(call) {
         Some(visit) => compare_visit(alloc, asked, visit, reply),
-        None => Err(Stop::At(Cause::NotEnded)),
+        None => Err(AuditStop::At(Cause::NotEnded)),
     }
 }
 
@@ -57,7 +57,7 @@ fn compare_visit(
     asked: &AskedQuery,
     visit: &Visit,
     reply: &Recorded,
-) -> Result<(), Stop>
+) -> Result<(), AuditStop>
     requires { HasLimits visit.now }
     ensures { Compares (IsVisitReply asked.now visit.now reply.now) result }
 {

@@ -29,7 +29,7 @@ pub struct AskedQuery {
 ///
 /// # Errors
 ///
-/// `Memory` for want of memory alone.
+/// `Memory` only when out of memory.
 pub(crate) fn asked_as(
     alloc: Global,
     call: usize,

@@ -2,12 +2,12 @@
 
 ghost use Rattle.std.specs.Prelude.{◌≡◌, ◌+◌, ◌<◌, ◌≤◌, ◌^◌, [], length, IfOk, OnOk};
 ghost use Rattle.td_audit.specs.Auditing.{AuditsOrWants, opening_of, state};
-ghost use Rattle.td_audit.specs.Events.{IsSound};
-ghost use Rattle.td_audit.specs.Judging.{AuditedOrWants, StepsTo, Takes, verdict_of};
+ghost use Rattle.td_audit.specs.Events.{IsWithinLimits};
+ghost use Rattle.td_audit.specs.Judging.{AuditedOrWants, StepsTo, TakesLine, verdict_of};
 ghost use Rattle.td_audit.specs.Links.{register_of};
 ghost use Rattle.td_log.specs.Words.{lines_of};
 ghost use Rattle.td_objects.specs.References.{IsAddress};
-ghost use Rattle.td_reply.specs.Linking.{link_change};
+ghost use Rattle.td_servant.specs.Linking.{link_change};
 
 use crate::answers::reply;
 use crate::asked::AskedQuery;
@@ -16,7 +16,7 @@ use crate::events::{ask, happen};
 use crate::group::{Group, group_of};
 use crate::links::{link_change, register_of};
 use crate::looks::look;
-use crate::verdict::{Halt, Stop, Verdict};
+use crate::verdict::{AuditStop, Halt, Verdict};
 use std::alloc::Global;
 use td_cdr::{Boxed, List, Memory};
 use td_log::{Line, next_line, read_line, read_words};
@@ -43,12 +43,12 @@ fn judge(
     net: &mut Net,
     asked: &mut List<AskedQuery>,
     line: Line,
-) -> Result<(), Stop>
+) -> Result<(), AuditStop>
     requires home { IsAddress group.now.home }
-    requires sound { IsSound net.old }
+    requires sound { IsWithinLimits net.old }
     ensures steps { StepsTo group.now.home group.now.names (state net.old asked.old) line result
         (state net.new asked.new) }
-    ensures sound { OnOk result (IsSound net.new) }
+    ensures sound { OnOk result (IsWithinLimits net.new) }
 {
     match line {
         Line::Change {
@@ -64,7 +64,7 @@ fn judge(
             reply,
         } => match linked(alloc, group, link) {
             Ok(wanted) => change(alloc, net, trader, form, wanted, &reply),
-            Err(Memory) => Err(Stop::Memory),
+            Err(Memory) => Err(AuditStop::Memory),
         },
         Line::Look {
             trader,
@@ -97,17 +97,18 @@ fn take_line(
     line: &[u8],
 ) -> Result<(), Halt>
     requires home { IsAddress group.now.home }
-    requires sound { IsSound net.old }
+    requires sound { IsWithinLimits net.old }
     requires short { length line.now < 2 ^ 32 }
-    ensures takes { Takes group.now.home group.now.names (state net.old asked.old) line.now result
+    ensures takes { TakesLine group.now.home group.now.names (state net.old asked.old) line.now
+        result
         (state net.new asked.new) }
-    ensures sound { OnOk result (IsSound net.new) }
+    ensures sound { OnOk result (IsWithinLimits net.new) }
 {
     match read_line(alloc, group.names.as_slice(), line) {
         Ok(Some(line)) => match judge(alloc, group, net, asked, line) {
             Ok(()) => Ok(()),
-            Err(Stop::At(cause)) => Err(Halt::At(cause)),
-            Err(Stop::Memory) => Err(Halt::Memory),
+            Err(AuditStop::At(cause)) => Err(Halt::At(cause)),
+            Err(AuditStop::Memory) => Err(Halt::Memory),
         },
         Ok(None) => Err(Halt::Strange),
         Err(Memory) => Err(Halt::Memory),
@@ -128,7 +129,7 @@ fn verdict_of(halt: Halt, number: u32) -> Verdict
 /// Audits what is left of a log behind so many of its lines.
 fn audit_rest(alloc: Global, group: &Group, net: Net, number: u32, log: &[u8]) -> Verdict
     requires home { IsAddress group.now.home }
-    requires sound { IsSound net }
+    requires sound { IsWithinLimits net }
     requires short { number + length log.now < 2 ^ 32 }
     ensures { AuditedOrWants group.now.home group.now.names (state net []) number (lines_of log.now)
         result }
@@ -174,7 +175,7 @@ fn opening_of(alloc: Global, log: &[u8]) -> Result<(List<u64>, u32, &[u8]), Memo
 /// where nothing is left.
 ///
 /// The verdict is that of the first line that fails, or that isn't in the log's table (`read_line` of td_log), whatever
-/// stands behind it; `Memory` for want of memory.
+/// stands behind it; `Memory` when out of memory.
 pub fn audit(alloc: Global, solo: Solo, home: Address, log: &[u8]) -> Verdict
     requires home { IsAddress home }
     requires short { length log.now < 2 ^ 32 }

@@ -1,15 +1,15 @@
 //! Changes of a log.
 
 ghost use Rattle.std.specs.Prelude.{◌≡◌, OnOk, IfOk};
-ghost use Rattle.td_audit.specs.Changes.{ChangesTo, told_at, point_at};
-ghost use Rattle.td_audit.specs.Events.{IsSound};
-ghost use Rattle.td_audit.specs.Replies.{spelled};
+ghost use Rattle.td_audit.specs.Changes.{ChangesTo, reply_at_place, point_at};
+ghost use Rattle.td_audit.specs.Events.{IsWithinLimits};
+ghost use Rattle.td_audit.specs.Replies.{spelled_reply};
 ghost use Rattle.td_audit.specs.Verdicts.{Compares};
 ghost use Rattle.td_ops.specs.declared.outcome.Outcome.TheVariants.{Done};
 
 use crate::events::happen;
 use crate::replies::compare;
-use crate::verdict::{Cause, Stop};
+use crate::verdict::{AuditStop, Cause};
 use std::alloc::Global;
 use td_cdr::{Boxed, Memory};
 use td_log::{Recorded, ReplyForm};
@@ -27,8 +27,13 @@ fn point_at(net: &Net, trader: usize) -> Option<usize>
 }
 
 /// What the change at this place of a trader's history was answered with.
-fn told_at(alloc: Global, net: &Net, trader: usize, place: usize) -> Result<Option<Reply>, Memory>
-    ensures { IfOk result (λ r. r ≡ told_at net.now trader place) }
+fn reply_at_place(
+    alloc: Global,
+    net: &Net,
+    trader: usize,
+    place: usize,
+) -> Result<Option<Reply>, Memory>
+    ensures { IfOk result (λ r. r ≡ reply_at_place net.now trader place) }
 {
     let Some(trader) = net.trader(trader) else {
         return Ok(None);
@@ -50,27 +55,32 @@ pub(crate) fn change(
     form: ReplyForm,
     change: Boxed<Change>,
     reply: &Recorded,
-) -> Result<(), Stop>
-    requires sound { IsSound net.old }
+) -> Result<(), AuditStop>
+    requires sound { IsWithinLimits net.old }
     ensures changes { ChangesTo net.old trader form change reply.now result net.new }
-    ensures sound { OnOk result (IsSound net.new) }
+    ensures sound { OnOk result (IsWithinLimits net.new) }
 {
     let Some(before) = point_at(net, trader) else {
-        return Err(Stop::At(Cause::Net(NetFault::NoTrader)));
+        return Err(AuditStop::At(Cause::Net(NetFault::NoTrader)));
     };
     happen(net, Event::Change { trader, change })?;
-    match told_at(alloc, net, trader, before) {
-        Ok(Some(told)) => compare_done(alloc, form, told, reply),
-        Ok(None) => Err(Stop::At(Cause::Refused)),
-        Err(Memory) => Err(Stop::Memory),
+    match reply_at_place(alloc, net, trader, before) {
+        Ok(Some(content)) => compare_done(alloc, form, content, reply),
+        Ok(None) => Err(AuditStop::At(Cause::Refused)),
+        Err(Memory) => Err(AuditStop::Memory),
     }
 }
 
 /// Compares a recorded reply with the one for a result.
-fn compare_done(alloc: Global, form: ReplyForm, told: Reply, reply: &Recorded) -> Result<(), Stop>
-    ensures { Compares (reply.now.bytes ≡ spelled form (Done told)) result }
+fn compare_done(
+    alloc: Global,
+    form: ReplyForm,
+    content: Reply,
+    reply: &Recorded,
+) -> Result<(), AuditStop>
+    ensures { Compares (reply.now.bytes ≡ spelled_reply form (Done content)) result }
 {
-    let outcome = Outcome::Done(told);
+    let outcome = Outcome::Done(content);
     let compared = compare(alloc, form, &outcome, reply);
     drop(outcome);
     compared

@@ -19,7 +19,7 @@ pub(crate) struct Group {
 ///
 /// # Errors
 ///
-/// `Memory` for want of memory alone.
+/// `Memory` only when out of memory.
 pub(crate) fn group_of(alloc: Global, home: &Address, traders: &[Trader]) -> Result<Group, Memory>
     ensures home { IfOk result (λ g. g.home ≡ home.now) }
     ensures names { IfOk result (λ g. g.names ≡ names_of traders.now) }

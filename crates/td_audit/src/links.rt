@@ -5,7 +5,7 @@ ghost use Rattle.td_audit.specs.Links.{register_keyed, register_named, register_
 ghost use Rattle.td_ior.specs.Profiles.{iiop_of};
 ghost use Rattle.td_log.specs.Lines.{trader_named};
 ghost use Rattle.td_objects.specs.References.{IsAddress};
-ghost use Rattle.td_reply.specs.Linking.{link_change};
+ghost use Rattle.td_servant.specs.Linking.{link_change};
 
 use crate::group::Group;
 use std::alloc::Global;
@@ -13,7 +13,7 @@ use td_cdr::{Memory, Text};
 use td_ior::{Kind, ObjectKey, has_iiop, nil};
 use td_objects::{Interface, own_reference};
 use td_ops::{AddLink, Change};
-use td_places::home_key;
+use td_targets::home_key;
 use td_value::Ior;
 
 /// The register of a link to this target: the target's own where it is the Lookup of a trader of one of these names,
@@ -21,7 +21,7 @@ use td_value::Ior;
 ///
 /// # Errors
 ///
-/// `Memory` for want of memory alone.
+/// `Memory` only when out of memory.
 pub(crate) fn register_of(alloc: Global, group: &Group, target: &Ior) -> Result<Option<Ior>, Memory>
     requires { IsAddress group.now.home }
     ensures { IfOk result (λ r. r ≡ register_of group.now.home group.now.names target.now) }

@@ -4,17 +4,17 @@ ghost use Rattle.std.specs.Prelude.{◌≡◌, IfOk};
 ghost use Rattle.td_audit.specs.Answers.{LooksAt};
 ghost use Rattle.td_audit.specs.Replies.{IsFoundReply};
 ghost use Rattle.td_audit.specs.Verdicts.{Compares};
-ghost use Rattle.td_reply.specs.Looking.{ids_in};
+ghost use Rattle.td_servant.specs.Looking.{ids_in};
 
 use crate::answers::differ_unless;
 use crate::replies::{compare, has_ids};
-use crate::verdict::{Cause, Stop};
+use crate::verdict::{AuditStop, Cause};
 use std::alloc::Global;
 use td_cdr::Memory;
 use td_log::{Recorded, ReplyForm};
 use td_net::{Net, NetFault};
 use td_ops::{Look, Outcome, Reply};
-use td_reply::how_many;
+use td_servant::how_many;
 
 /// Compares the recorded reply of a look with what the network's trader answers.
 pub(crate) fn look(
@@ -24,11 +24,11 @@ pub(crate) fn look(
     form: ReplyForm,
     look: &Look,
     reply: &Recorded,
-) -> Result<(), Stop>
+) -> Result<(), AuditStop>
     ensures { LooksAt net.now trader form look.now reply.now result }
 {
     let Some(trader) = net.trader(trader) else {
-        return Err(Stop::At(Cause::Net(NetFault::NoTrader)));
+        return Err(AuditStop::At(Cause::Net(NetFault::NoTrader)));
     };
     match trader.look(look) {
         Ok((found, max_list)) => {
@@ -37,7 +37,7 @@ pub(crate) fn look(
             drop(found);
             compared
         }
-        Err(Memory) => Err(Stop::Memory),
+        Err(Memory) => Err(AuditStop::Memory),
     }
 }
 
@@ -49,7 +49,7 @@ fn compare_found(
     n: u32,
     found: &Outcome,
     reply: &Recorded,
-) -> Result<(), Stop>
+) -> Result<(), AuditStop>
     ensures { Compares (IsFoundReply form n (ids_in found.now) found.now reply.now) result }
 {
     match found {

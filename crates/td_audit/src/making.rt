@@ -2,14 +2,15 @@
 
 ghost use Rattle.std.specs.Prelude.{◌≡◌, ◌++◌, ◌∷◌, [], length, OnOk, IfOk, Some};
 ghost use Rattle.hex.specs.Hex.{encode_lower};
-ghost use Rattle.td_audit.specs.Events.{IsSound};
-ghost use Rattle.td_audit.specs.Following.{AsksOne, FollowsTo, GoesOn, PutsReply, query_request};
-ghost use Rattle.td_audit.specs.Making.{Accepts, Answers, IsLog, ask_line, form, innermost, request_to};
-ghost use Rattle.td_audit.specs.Replies.{spelled};
+ghost use Rattle.td_audit.specs.Events.{IsWithinLimits};
+ghost use Rattle.td_audit.specs.Following.{AsksOne, FollowsTo, ResumesCall, PutsReply, query_request};
+ghost use Rattle.td_audit.specs.Making.{AcceptsEvent, IsOutcomeOfVisit, IsLog, ask_line, form, innermost_call};
+ghost use Rattle.td_audit.specs.Making.{request_to};
+ghost use Rattle.td_audit.specs.Replies.{spelled_reply};
 ghost use Rattle.td_cdr.specs.Lawful.{AreOctets};
 ghost use Rattle.td_cdr.specs.Names.{IsTraderName};
 ghost use Rattle.td_iter.specs.Heads.{AreLimits};
-ghost use Rattle.td_lookup.specs.Telling.{HasLimits};
+ghost use Rattle.td_lookup.specs.Answering.{HasLimits};
 ghost use Rattle.td_net.specs.Worlds.{visit_at};
 ghost use Rattle.td_objects.specs.References.{IsAddress};
 ghost use Rattle.td_ops.specs.declared.outcome.Outcome.{Outcome};
@@ -79,7 +80,7 @@ fn query_request(alloc: Global, key: &[u8]) -> Result<Writer, Memory>
 
 /// Appends hexadecimal digits of these octets, and a line feed.
 fn put_octets(alloc: Global, text: &mut Vec<u8>, octets: &[u8]) -> Result<(), Memory>
-    ensures told { OnOk result (text.new.items ≡ text.old.items ++ encode_lower octets.now ++ 10
+    ensures content { OnOk result (text.new.items ≡ text.old.items ++ encode_lower octets.now ++ 10
         ∷ []) }
     ensures octets { OnOk result (AreOctets octets.now) }
 {
@@ -90,7 +91,8 @@ fn put_octets(alloc: Global, text: &mut Vec<u8>, octets: &[u8]) -> Result<(), Me
 
 /// Appends the line by which a trader is asked.
 fn put_ask(alloc: Global, text: &mut Vec<u8>, name: &Text) -> Result<(), Memory>
-    ensures told { OnOk result (text.new.items ≡ text.old.items ++ ask_line name.now ++ 10 ∷ []) }
+    ensures content { OnOk result (text.new.items ≡ text.old.items ++ ask_line name.now ++ 10
+        ∷ []) }
     ensures octets { OnOk result (AreOctets (request_to name.now)) }
 {
     let request = request_to(alloc, name)?;
@@ -101,8 +103,8 @@ fn put_ask(alloc: Global, text: &mut Vec<u8>, name: &Text) -> Result<(), Memory>
 }
 
 /// The call that a call waits for, and so on.
-fn innermost(net: &Net, call: usize) -> usize
-    ensures { result ≡ innermost (length net.now.calls) net.now.calls call }
+fn innermost_call(net: &Net, call: usize) -> usize
+    ensures { result ≡ innermost_call (length net.now.calls) net.now.calls call }
 {
     let mut call = call;
     for _ in 0..net.calls() {
@@ -118,11 +120,11 @@ fn innermost(net: &Net, call: usize) -> usize
 ///
 /// # Errors
 ///
-/// `Memory` for want of memory alone.
+/// `Memory` only when out of memory.
 fn go_on(alloc: Global, net: &mut Net, call: usize, text: &mut Vec<u8>) -> Result<(), Memory>
-    requires { IsSound net.old }
-    ensures goes { OnOk result (GoesOn net.old call text.old.items text.new.items net.new) }
-    ensures sound { OnOk result (IsSound net.new) }
+    requires { IsWithinLimits net.old }
+    ensures goes { OnOk result (ResumesCall net.old call text.old.items text.new.items net.new) }
+    ensures sound { OnOk result (IsWithinLimits net.new) }
 {
     match net.state(call) {
         Some(CallState::Sent) => {
@@ -146,9 +148,9 @@ fn go_on(alloc: Global, net: &mut Net, call: usize, text: &mut Vec<u8>) -> Resul
 
 /// Hands the network an event that it accepts.
 fn take(net: &mut Net, event: Event) -> Result<(), Memory>
-    requires { IsSound net.old }
-    ensures accepts { OnOk result (Accepts net.old event net.new) }
-    ensures sound { OnOk result (IsSound net.new) }
+    requires { IsWithinLimits net.old }
+    ensures accepts { OnOk result (AcceptsEvent net.old event net.new) }
+    ensures sound { OnOk result (IsWithinLimits net.new) }
 {
     match happen(net, event) {
         Ok(()) => Ok(()),
@@ -158,14 +160,14 @@ fn take(net: &mut Net, event: Event) -> Result<(), Memory>
 
 /// Has the calls of an Ask go on until its own has ended, the innermost first.
 fn follow(alloc: Global, net: &mut Net, root: usize, text: &mut Vec<u8>) -> Result<(), Memory>
-    requires { IsSound net.old }
+    requires { IsWithinLimits net.old }
     ensures follows { OnOk result (FollowsTo root net.old text.old.items text.new.items net.new) }
-    ensures sound { OnOk result (IsSound net.new) }
+    ensures sound { OnOk result (IsWithinLimits net.new) }
 {
     for _ in 0..u64::MAX {
         match net.answer(root) {
             Some(_) => return Ok(()),
-            None => go_on(alloc, net, innermost(net, root), text)?,
+            None => go_on(alloc, net, innermost_call(net, root), text)?,
         }
     }
     Err(Memory)
@@ -176,8 +178,8 @@ fn reply_to(alloc: Global, home: &Address, name: &Text, visit: &Visit) -> Result
     requires home { IsAddress home.now }
     requires name { IsTraderName name.now }
     requires limits { HasLimits visit.now }
-    ensures { IfOk result (λ w. (o : Outcome) × Answers home.now name.now visit.now o
-        × (w.bytes ≡ spelled form o)) }
+    ensures { IfOk result (λ w. (o : Outcome) × IsOutcomeOfVisit home.now name.now visit.now o
+        × (w.bytes ≡ spelled_reply form o)) }
 {
     match visit {
         Visit::Answered { answer, max_list } => { reply_with(alloc, home, name, answer, *max_list) }
@@ -197,8 +199,8 @@ fn reply_with(
     requires name { IsTraderName name.now }
     requires limits { AreLimits answer.now.limits }
     ensures { IfOk result (λ w. (o : Outcome)
-        × Answers home.now name.now (visit.Answered answer.now max_list) o
-        × (w.bytes ≡ spelled form o)) }
+        × IsOutcomeOfVisit home.now name.now (visit.Answered answer.now max_list) o
+        × (w.bytes ≡ spelled_reply form o)) }
 {
     let offers = answer.offers.copy(alloc)?;
     let offers = choose_each(alloc, &SpecifiedProps::None, offers)?;
@@ -228,7 +230,7 @@ fn put_reply(
 ) -> Result<(), Memory>
     requires home { IsAddress home.now }
     requires name { IsTraderName name.now }
-    requires sound { IsSound net.now }
+    requires sound { IsWithinLimits net.now }
     ensures { (v : Reached) → visit_at net.now.calls call ≡ Some v
         → OnOk result (PutsReply home.now name.now call v text.old.items text.new.items) }
 {
@@ -252,10 +254,10 @@ fn ask_trader(
 ) -> Result<(), Memory>
     requires home { IsAddress home.now }
     requires name { IsTraderName name.now }
-    requires sound { IsSound net.old }
+    requires sound { IsWithinLimits net.old }
     ensures asks { OnOk result
         (AsksOne home.now trader name.now net.old text.old.items text.new.items net.new) }
-    ensures sound { OnOk result (IsSound net.new) }
+    ensures sound { OnOk result (IsWithinLimits net.new) }
 {
     put_ask(alloc, text, name)?;
     let call = net.calls();
@@ -274,7 +276,7 @@ fn ask_trader(
 ///
 /// # Errors
 ///
-/// `Memory` for want of memory alone.
+/// `Memory` only when out of memory.
 pub fn make_log(alloc: Global, solo: Solo, home: Address) -> Result<Octets, Memory>
     requires { IsAddress home }
     ensures { IfOk result (λ log. IsLog solo.traders.items home log) }

@@ -3,17 +3,17 @@
 
 ghost use Rattle.std.specs.Prelude.{◌≡◌, ◌≤◌, length, nat_le, IfOk, MatchBool};
 ghost use Rattle.std.specs.Str.{bytes_eq};
-ghost use Rattle.td_codes.specs.References.{reference as references};
+ghost use Rattle.td_typecode.specs.References.{reference as references};
 ghost use Rattle.td_cdr.specs.declared.order.Order.TheVariants.{Big};
-ghost use Rattle.td_giop.specs.Written.{reply_start, sealed};
+ghost use Rattle.td_giop.specs.Written.{reply_start, seal_size};
 ghost use Rattle.td_giop.specs.declared.header.TheConstants.{HEADER_SIZE};
 ghost use Rattle.td_iter.specs.Heads.{AreLimits};
 ghost use Rattle.td_iter.specs.declared.limits.TheConstants.{REPLY_START};
 ghost use Rattle.td_log.specs.Forms.{minor_of};
-ghost use Rattle.td_audit.specs.Replies.{HasIds, HasOffers, ends_so, spelled};
+ghost use Rattle.td_audit.specs.Replies.{HasIds, HasOffers, ends_so, spelled_reply};
 ghost use Rattle.td_audit.specs.Verdicts.{Compares};
 
-use crate::verdict::{Cause, Stop};
+use crate::verdict::{AuditStop, Cause};
 use std::alloc::Global;
 use td_cdr::{List, Memory, Order, Text, Writer};
 use td_giop::{seal, start_reply};
@@ -43,13 +43,13 @@ pub(crate) fn begin_reply(alloc: Global, form: ReplyForm, status: u32) -> Result
 ///
 /// # Errors
 ///
-/// `Memory` for want of memory alone.
+/// `Memory` only when out of memory.
 pub(crate) fn write_reply(
     alloc: Global,
     form: ReplyForm,
     outcome: &Outcome,
 ) -> Result<Writer, Memory>
-    ensures { IfOk result (λ w. w.bytes ≡ spelled form outcome.now) }
+    ensures { IfOk result (λ w. w.bytes ≡ spelled_reply form outcome.now) }
 {
     let mut writer = begin_reply(alloc, form, status_of(outcome))?;
     write_outcome(alloc, &mut writer, outcome)?;
@@ -61,14 +61,14 @@ pub(crate) fn write_reply(
 ///
 /// # Errors
 ///
-/// `Memory` for want of memory alone.
+/// `Memory` only when out of memory.
 pub(crate) fn is_spelled(
     alloc: Global,
     form: ReplyForm,
     outcome: &Outcome,
     reply: &Recorded,
 ) -> Result<bool, Memory>
-    ensures { IfOk result (λ b. b ≡ bytes_eq reply.now.bytes (spelled form outcome.now)) }
+    ensures { IfOk result (λ b. b ≡ bytes_eq reply.now.bytes (spelled_reply form outcome.now)) }
 {
     let writer = write_reply(alloc, form, outcome)?;
     Ok(reply.bytes.as_slice() == writer.bytes())
@@ -80,13 +80,13 @@ pub(crate) fn compare(
     form: ReplyForm,
     outcome: &Outcome,
     reply: &Recorded,
-) -> Result<(), Stop>
-    ensures { Compares (reply.now.bytes ≡ spelled form outcome.now) result }
+) -> Result<(), AuditStop>
+    ensures { Compares (reply.now.bytes ≡ spelled_reply form outcome.now) result }
 {
     match is_spelled(alloc, form, outcome, reply) {
         Ok(true) => Ok(()),
-        Ok(false) => Err(Stop::At(Cause::Differs)),
-        Err(Memory) => Err(Stop::Memory),
+        Ok(false) => Err(AuditStop::At(Cause::Differs)),
+        Err(Memory) => Err(AuditStop::Memory),
     }
 }
 
@@ -104,7 +104,7 @@ fn is_small(alloc: Global, reference: &Ior) -> Result<bool, Memory>
 ///
 /// # Errors
 ///
-/// `Memory` for want of memory alone.
+/// `Memory` only when out of memory.
 pub(crate) fn has_offers(
     alloc: Global,
     form: ReplyForm,
@@ -129,7 +129,7 @@ pub(crate) fn has_offers(
 ///
 /// # Errors
 ///
-/// `Memory` for want of memory alone.
+/// `Memory` only when out of memory.
 pub(crate) fn has_ids(
     alloc: Global,
     form: ReplyForm,
@@ -152,7 +152,7 @@ pub(crate) fn has_ids(
 /// is left.
 fn ends_so(more: bool, writer: Writer, reply: &Recorded) -> bool
     requires { HEADER_SIZE ≤ length writer.bytes }
-    ensures { result ≡ ends_so more reply.now (sealed writer.order writer.bytes) }
+    ensures { result ≡ ends_so more reply.now (seal_size writer.order writer.bytes) }
 {
     if is_nil(&reply.iterator) == more {
         return false;

@@ -24,13 +24,13 @@ pub enum Verdict {
     No(u32, Cause),
     /// The line of this number isn't in the log's table, and those before it are what the network does.
     Line(u32),
-    /// Want of memory.
+    /// Out of memory.
     Memory,
 }
 
 /// Why a line stops an audit.
 #[derive(Clone, Copy, Debug, PartialEq, Eq)]
-pub(crate) enum Stop {
+pub(crate) enum AuditStop {
     At(Cause),
     Memory,
 }

@@ -1,8 +1,9 @@
 -- A log has one verdict.
 use Rattle.std.proofs.Common.{◌≡◌, ℕ, ◌+◌, List, [], ◌∷◌, slice_get, Option, None, Some, Result, Ok, Err, refl, sym, ap}
 use Rattle.std.proofs.Common.{subst, ◌∙◌}
-use Rattle.td_audit.specs.Auditing.{Audited, ChangedAs, ChangedIn, Compared, EndedIn, Happens, Judged, LookedIn}
-use Rattle.td_audit.specs.Auditing.{RepliedIn, State, asked_of, fails, names_of, opening_of, over, passes, state}
+use Rattle.td_audit.specs.Auditing.{HasVerdict, ChangedAs, ChangedIn, ComparesReply, EndedIn, Happens, AuditsLine}
+use Rattle.td_audit.specs.Auditing.{LookedIn}
+use Rattle.td_audit.specs.Auditing.{RepliedIn, AuditState, asked_of, fails, names_of, opening_of, over, passes, state}
 use Rattle.td_audit.specs.Auditing.{strange}
 use Rattle.td_audit.specs.Links.{register_of}
 use Rattle.td_audit.specs.declared.asked.AskedQuery.{AskedQuery}
@@ -27,7 +28,7 @@ use Rattle.td_ops.specs.declared.call.Change.{Change}
 use Rattle.td_ops.specs.declared.call.Look.{Look}
 use Rattle.td_ops.specs.declared.outcome.Outcome.{Outcome}
 use Rattle.td_ops.specs.declared.outcome.Outcome.TheVariants.{Done, User, System}
-use Rattle.td_reply.specs.Linking.{link_change}
+use Rattle.td_servant.specs.Linking.{link_change}
 use Rattle.td_trader.specs.PlainTraders.{PlainTrader, outcome_of}
 use Rattle.td_walk.specs.declared.trace.Address.{Address}
 use Rattle.td_walk.specs.declared.trace.Visit.{Visit}
@@ -36,12 +37,12 @@ module _ (runs : RunsAreOne) where
   becomes-one : (w u v : World) (e : Event) → Becomes w (step_of w e) u → Becomes w (step_of w e) v → u ≡ v
   becomes-one w u v e a b = runs w u v (e ∷ []) (then a ended) (then b ended)
 
-  state-one : (s t : State) → s.net ≡ t.net → s.asked ≡ t.asked → s ≡ t
+  state-one : (s t : AuditState) → s.net ≡ t.net → s.asked ≡ t.asked → s ≡ t
   state-one s t n a = ap (λ (w : World). state w s.asked) n ∙ ap (state t.net) a
 
   -- ---- two judgements of one line agree
 
-  happens-one : (s : State) (e : Event) (asked : List AskedQuery) (r q : Result State Cause) → Happens s e asked r
+  happens-one : (s : AuditState) (e : Event) (asked : List AskedQuery) (r q : Result AuditState Cause) → Happens s e asked r
       → Happens s e asked q → r ≡ q
   happens-one s e asked (Ok t) (Ok u) h k =
       ap Ok (state-one t u (becomes-one s.net t.net u.net e h.1 k.1) (h.2 ∙ sym k.2))
@@ -62,49 +63,49 @@ module _ (runs : RunsAreOne) where
   happens-one s e asked (Err Differs) q h k = absurd h
   happens-one s e asked (Err NotEnded) q h k = absurd h
 
-  compared-one : (s : State) (right : Type 0) (r q : Result State Cause) → Compared s right r → Compared s right q
+  compared-one : (s : AuditState) (right : Type 0) (r q : Result AuditState Cause) → ComparesReply s right r → ComparesReply s right q
       → r ≡ q
   compared-one s right (Ok t) (Ok u) h k = ap Ok (h.1 ∙ sym k.1)
   compared-one s right (Ok t) (Err c) h k = absurd (k.0 h.0)
   compared-one s right (Err c) (Ok u) h k = absurd (h.0 k.0)
   compared-one s right (Err c) (Err d) h k = ap Err (h.1 ∙ sym k.1)
 
-  same-as : (r q x : Result State Cause) → r ≡ x → q ≡ x → r ≡ q
+  same-as : (r q x : Result AuditState Cause) → r ≡ x → q ≡ x → r ≡ q
   same-as r q x a b = a ∙ sym b
 
-  changed-as-one : (s : State) (n : ℕ) (c : Change) (form : ReplyForm) (reply : Recorded) (o : Outcome)
-      (r q : Result State Cause) → ChangedAs s (event.Change n c) form reply o r
+  changed-as-one : (s : AuditState) (n : ℕ) (c : Change) (form : ReplyForm) (reply : Recorded) (o : Outcome)
+      (r q : Result AuditState Cause) → ChangedAs s (event.Change n c) form reply o r
       → ChangedAs s (event.Change n c) form reply o q → r ≡ q
-  changed-as-one s n c form reply (Done told) (Ok t) (Ok u) h k =
+  changed-as-one s n c form reply (Done content) (Ok t) (Ok u) h k =
       ap Ok (state-one t u (becomes-one s.net t.net u.net (event.Change n c) h.1 k.1) (h.2 ∙ sym k.2))
-  changed-as-one s n c form reply (Done told) (Ok t) (Err e) h k = absurd (k.0 h.0)
-  changed-as-one s n c form reply (Done told) (Err e) (Ok u) h k = absurd (h.0 k.0)
-  changed-as-one s n c form reply (Done told) (Err e) (Err f) h k = ap Err (h.1 ∙ sym k.1)
+  changed-as-one s n c form reply (Done content) (Ok t) (Err e) h k = absurd (k.0 h.0)
+  changed-as-one s n c form reply (Done content) (Err e) (Ok u) h k = absurd (h.0 k.0)
+  changed-as-one s n c form reply (Done content) (Err e) (Err f) h k = ap Err (h.1 ∙ sym k.1)
   changed-as-one s n c form reply (User x) r q h k = same-as r q _ h k
   changed-as-one s n c form reply (System kind minor completion) r q h k = same-as r q _ h k
 
-  changed-in-one : (s : State) (n : ℕ) (form : ReplyForm) (c : Change) (reply : Recorded) (o : Option PlainTrader)
-      (r q : Result State Cause) → ChangedIn s n form c reply o r → ChangedIn s n form c reply o q → r ≡ q
+  changed-in-one : (s : AuditState) (n : ℕ) (form : ReplyForm) (c : Change) (reply : Recorded) (o : Option PlainTrader)
+      (r q : Result AuditState Cause) → ChangedIn s n form c reply o r → ChangedIn s n form c reply o q → r ≡ q
   changed-in-one s n form c reply None r q h k = same-as r q _ h k
   changed-in-one s n form c reply (Some t) r q h k = changed-as-one s n c form reply (outcome_of t c) r q h k
 
-  looked-in-one : (s : State) (form : ReplyForm) (l : Look) (reply : Recorded) (o : Option PlainTrader)
-      (r q : Result State Cause) → LookedIn s form l reply o r → LookedIn s form l reply o q → r ≡ q
+  looked-in-one : (s : AuditState) (form : ReplyForm) (l : Look) (reply : Recorded) (o : Option PlainTrader)
+      (r q : Result AuditState Cause) → LookedIn s form l reply o r → LookedIn s form l reply o q → r ≡ q
   looked-in-one s form l reply None r q h k = same-as r q _ h k
   looked-in-one s form l reply (Some t) r q h k = compared-one s _ r q h k
 
-  ended-in-one : (s : State) (a : AskedQuery) (reply : Recorded) (o : Option Visit) (r q : Result State Cause)
+  ended-in-one : (s : AuditState) (a : AskedQuery) (reply : Recorded) (o : Option Visit) (r q : Result AuditState Cause)
       → EndedIn s a reply o r → EndedIn s a reply o q → r ≡ q
   ended-in-one s a reply None r q h k = same-as r q _ h k
   ended-in-one s a reply (Some v) r q h k = compared-one s _ r q h k
 
-  replied-in-one : (s : State) (c : ℕ) (reply : Recorded) (o : Option AskedQuery) (r q : Result State Cause)
+  replied-in-one : (s : AuditState) (c : ℕ) (reply : Recorded) (o : Option AskedQuery) (r q : Result AuditState Cause)
       → RepliedIn s c reply o r → RepliedIn s c reply o q → r ≡ q
   replied-in-one s c reply None r q h k = same-as r q _ h k
   replied-in-one s c reply (Some a) r q h k = ended-in-one s a reply (visit_at s.net.calls c) r q h k
 
-  judged-one : (home : Address) (names : List (List ℕ)) (s : State) (l : Line) (r q : Result State Cause)
-      → Judged home names s l r → Judged home names s l q → r ≡ q
+  judged-one : (home : Address) (names : List (List ℕ)) (s : AuditState) (l : Line) (r q : Result AuditState Cause)
+      → AuditsLine home names s l r → AuditsLine home names s l q → r ≡ q
   judged-one home names s (line.Change n form c reply) r q h k =
       changed-in-one s n form c reply (slice_get s.net.traders n) r q h k
   judged-one home names s (line.AddLink n form l reply) r q h k =
@@ -127,36 +128,36 @@ module _ (runs : RunsAreOne) where
       → line_of names first ≡ Some l → ⊥
   no-line names first l a b = let e : ◌≡◌ {A = Option Line} None (Some l) = sym a ∙ b in cc
 
-  same-judgement : (home : Address) (names : List (List ℕ)) (s : State) (first : List ℕ) (l m : Line)
-      (r q : Result State Cause) → line_of names first ≡ Some l → line_of names first ≡ Some m
-      → Judged home names s l r → Judged home names s m q → r ≡ q
+  same-judgement : (home : Address) (names : List (List ℕ)) (s : AuditState) (first : List ℕ) (l m : Line)
+      (r q : Result AuditState Cause) → line_of names first ≡ Some l → line_of names first ≡ Some m
+      → AuditsLine home names s l r → AuditsLine home names s m q → r ≡ q
   same-judgement home names s first l m r q a b h k =
       judged-one home names s l r q h
-      (subst (λ (z : Line). Judged home names s z q) (sym (same-line names first l m a b)) k)
+      (subst (λ (z : Line). AuditsLine home names s z q) (sym (same-line names first l m a b)) k)
 
-  audited-one : (home : Address) (names : List (List ℕ)) (s : State) (n : ℕ) (lines : List (List ℕ)) (v u : Verdict)
-      → Audited home names s n lines v → Audited home names s n lines u → v ≡ u
+  audited-one : (home : Address) (names : List (List ℕ)) (s : AuditState) (n : ℕ) (lines : List (List ℕ)) (v u : Verdict)
+      → HasVerdict home names s n lines v → HasVerdict home names s n lines u → v ≡ u
   audited-one home names s n [] v u over over = refl
   audited-one home names s n (first ∷ rest) v u (strange a) (strange b) = refl
   audited-one home names s n (first ∷ rest) v u (strange a) (fails {l = m} b k) = absurd (no-line names first m a b)
   audited-one home names s n (first ∷ rest) v u (strange a) (passes {l = m} b k y) = absurd (no-line names first m a b)
   audited-one home names s n (first ∷ rest) v u (fails {l = l} a h) (strange b) = absurd (no-line names first l b a)
   audited-one home names s n (first ∷ rest) v u (fails {l = l} {cause = c} a h) (fails {l = m} {cause = d} b k) =
-      let e : ◌≡◌ {A = Result State Cause} (Err c) (Err d) =
+      let e : ◌≡◌ {A = Result AuditState Cause} (Err c) (Err d) =
       same-judgement home names s first l m (Err c) (Err d) a b h k
       in let same : c ≡ d = cc in ap (verdict.No (n + 1)) same
   audited-one home names s n (first ∷ rest) v u (fails {l = l} {cause = c} a h) (passes {t = t} {l = m} b k y) =
-      absurd (let e : ◌≡◌ {A = Result State Cause} (Err c) (Ok t) =
+      absurd (let e : ◌≡◌ {A = Result AuditState Cause} (Err c) (Ok t) =
       same-judgement home names s first l m (Err c) (Ok t) a b h k in cc)
   audited-one home names s n (first ∷ rest) v u (passes {l = l} a h x) (strange b) = absurd (no-line names first l b a)
   audited-one home names s n (first ∷ rest) v u (passes {t = t} {l = l} a h x) (fails {l = m} {cause = d} b k) =
-      absurd (let e : ◌≡◌ {A = Result State Cause} (Ok t) (Err d) =
+      absurd (let e : ◌≡◌ {A = Result AuditState Cause} (Ok t) (Err d) =
       same-judgement home names s first l m (Ok t) (Err d) a b h k in cc)
   audited-one home names s n (first ∷ rest) v u (passes {t = t} {l = l} a h x) (passes {t = z} {l = m} b k y) =
-      let e : ◌≡◌ {A = Result State Cause} (Ok t) (Ok z) = same-judgement home names s first l m (Ok t) (Ok z) a b h k
+      let e : ◌≡◌ {A = Result AuditState Cause} (Ok t) (Ok z) = same-judgement home names s first l m (Ok t) (Ok z) a b h k
       in let same : z ≡ t = cc in
       audited-one home names t (n + 1) rest v u x
-      (subst (λ (p : State). Audited home names p (n + 1) rest u) same y)
+      (subst (λ (p : AuditState). HasVerdict home names p (n + 1) rest u) same y)
 
   pub verdicts-one : VerdictsAreOne
   verdicts-one traders home log v u a b =

@@ -2,20 +2,23 @@
 use Rattle.std.proofs.Common.{◌≡◌, ℕ, ◌<◌, Bool, true, false, List, [], ◌∷◌, ◌++◌, length, slice_get, slice_set}
 use Rattle.std.proofs.Common.{Option, None, Some, refl, sym, subst, ap, ◌∙◌, arith, ◌⊎◌, inl, inr, length-append}
 use Rattle.std.proofs.lemmas.List.{length-set}
-use Rattle.td_codes.specs.declared.code.Any.{Any}
+use Rattle.td_typecode.specs.declared.code.Any.{Any}
 use Rattle.td_net.specs.Schedules.{Run, over, then}
-use Rattle.td_net.specs.Worlds.{World, Becomes, Taken, Refused, Moved, Closing, answer_at, answer_by, answer_in_stage}
-use Rattle.td_net.specs.Worlds.{ask_at, begun_by, change_at, deliver_at, deliver_in, deliver_to, delivered, delivery_of}
-use Rattle.td_net.specs.Worlds.{fault_in, fault_of, hand_on, handed, opened, with_begun, lose_at, lose_by, placed_by}
-use Rattle.td_net.specs.Worlds.{resumed, resumed_in, sent, step_of, value_at, value_in}
+use Rattle.td_net.specs.Worlds.{World, Becomes, EventResult, Refused, Moved, Closing, answer_at, answer_by}
+use Rattle.td_net.specs.Worlds.{answer_in_stage}
+use Rattle.td_net.specs.Worlds.{ask_at, begun_by, change_at, deliver_at, deliver_in, deliver_to, deliver_call}
+use Rattle.td_net.specs.Worlds.{delivery_of}
+use Rattle.td_net.specs.Worlds.{fault_in, fault_of, hand_on, hand_answer, open_call, with_begun, lose_at, lose_by}
+use Rattle.td_net.specs.Worlds.{placed_by}
+use Rattle.td_net.specs.Worlds.{resume_caller, resumed_in, sent, step_of, value_at, value_in}
 use Rattle.td_net.specs.declared.call.Call.{Call}
 use Rattle.td_net.specs.declared.call.Stage.{Stage}
 use Rattle.td_net.specs.declared.call.Stage.TheVariants.{Sent, Running, Evaluating, Waiting, Ended}
-use Rattle.td_net.specs.declared.call.Step.{Step}
+use Rattle.td_net.specs.declared.call.QuestionStep.{QuestionStep}
 use Rattle.td_net.specs.declared.event.Event.{Event}
 use Rattle.td_net.specs.declared.event.Event.TheVariants.{Change as Changed, Ask, Deliver, Value, Answer, Lose}
-use Rattle.td_net.specs.declared.settling.Pending.{Pending}
-use Rattle.td_net.specs.declared.settling.Pending.TheVariants as pending
+use Rattle.td_net.specs.declared.advancing.Pending.{Pending}
+use Rattle.td_net.specs.declared.advancing.Pending.TheVariants as pending
 use Rattle.td_net_laws.proofs.Places.{get-append, get-last, get-set}
 use Rattle.td_ops.specs.declared.call.Change.{Change}
 use Rattle.td_ops.specs.declared.call.Query.{Query}
@@ -64,18 +67,18 @@ module _ (P : Call → Type 0) (fixed : IsFixed P) (d : ℕ) where
     by x (inl e) = absurd (let w = h.within in let same = e.0 in let no : ⊥ = omega (arith, w, same) in no)
     by x (inr e) = h.holds x e
 
-  abbrev TakenRoot : Taken → Type 0
+  abbrev TakenRoot : EventResult → Type 0
   TakenRoot (Refused f) = Unit {0}
   TakenRoot (Moved v) = Keeps P d v.calls
   TakenRoot (Closing v c k l rs ss) = Keeps P d v.calls × Stands v.calls c k
 
-  becomes-root : (w u : World) (t : Taken) → Keeps P d w.calls → TakenRoot t → Becomes w t u → Keeps P d u.calls
+  becomes-root : (w u : World) (t : EventResult) → Keeps P d w.calls → TakenRoot t → Becomes w t u → Keeps P d u.calls
   becomes-root w u (Refused f) all h b = subst (λ (z : World). Keeps P d z.calls) (sym b) all
   becomes-root w u (Moved v) all h b = subst (λ (z : World). Keeps P d z.calls) (sym b) h
   becomes-root w u (Closing v c k l rs ss) all h b =
       subst (λ (z : World). Keeps P d z.calls) (sym b.2) (root-set v.calls c k _ h.1 refl refl h.0)
 
-  placed-root : (w : World) (c : ℕ) (k : Call) (l : Local) (rs : List StepAnswer) (ss : List Step) (p : Pending)
+  placed-root : (w : World) (c : ℕ) (k : Call) (l : Local) (rs : List StepAnswer) (ss : List QuestionStep) (p : Pending)
       → Keeps P d w.calls → Stands w.calls c k → TakenRoot (placed_by w c k l rs ss p)
   placed-root w c k l rs ss pending.Nothing h at = (h, at)
   placed-root w c k l rs ss pending.Value h at = root-set w.calls c k _ at refl refl h
@@ -94,7 +97,7 @@ module _ (P : Call → Type 0) (fixed : IsFixed P) (d : ℕ) where
       → TakenRoot (deliver_to w c k t)
   to-root w c k None h at = tt
   to-root w c k (Some t) h at =
-      begun-root (with_begun w k.target t k.query) c (delivered k (delivery_of w.clock t)) (begin_at t k.query) h
+      begun-root (with_begun w k.target t k.query) c (deliver_call k (delivery_of w.clock t)) (begin_at t k.query) h
       (record { old = at.old; is = at.is; root = at.root; query = at.query })
 
   in-root : (w : World) (c : ℕ) (k : Call) (s : Stage) → Keeps P d w.calls → Stands w.calls c k
@@ -116,7 +119,7 @@ module _ (P : Call → Type 0) (fixed : IsFixed P) (d : ℕ) where
   value-in-root w c k v (Waiting f e) h at = tt
   value-in-root w c k v (Ended a) h at = tt
 
-  resumed-in-root : (w : World) (p : ℕ) (k : Call) (s : Step) (r : StepAnswer) (stage : Stage) → Keeps P d w.calls
+  resumed-in-root : (w : World) (p : ℕ) (k : Call) (s : QuestionStep) (r : StepAnswer) (stage : Stage) → Keeps P d w.calls
       → Stands w.calls p k → TakenRoot (resumed_in w p k s r stage)
   resumed-in-root w p k s r Sent h at = h
   resumed-in-root w p k s r Running h at = h
@@ -124,14 +127,14 @@ module _ (P : Call → Type 0) (fixed : IsFixed P) (d : ℕ) where
   resumed-in-root w p k s r (Waiting f e) h at = placed-root w p k f.local _ _ _ h at
   resumed-in-root w p k s r (Ended v) h at = h
 
-  resumed-root : (w : World) (p : ℕ) (s : Step) (r : StepAnswer) (k : Option Call) → Keeps P d w.calls
-      → slice_get w.calls p ≡ k → TakenRoot (resumed w p s r k)
+  resumed-root : (w : World) (p : ℕ) (s : QuestionStep) (r : StepAnswer) (k : Option Call) → Keeps P d w.calls
+      → slice_get w.calls p ≡ k → TakenRoot (resume_caller w p s r k)
   resumed-root w p s r None h is = h
   resumed-root w p s r (Some k) h is = resumed-in-root w p k s r k.stage h (itself w.calls p k is)
 
-  hand-root : (w : World) (e : ℕ) (k : Call) (p : ℕ) (s : Step) (r : StepAnswer) → Keeps P d w.calls
+  hand-root : (w : World) (e : ℕ) (k : Call) (p : ℕ) (s : QuestionStep) (r : StepAnswer) → Keeps P d w.calls
       → Stands w.calls e k → TakenRoot (hand_on w e k p s r)
-  hand-root w e k p s r h at = resumed-root (handed w e k) p s r _ (root-set w.calls e k _ at refl refl h) refl
+  hand-root w e k p s r h at = resumed-root (hand_answer w e k) p s r _ (root-set w.calls e k _ at refl refl h) refl
 
   answer-stage-root : (w : World) (e : ℕ) (k : Call) (p : ℕ) (s : Stage) → Keeps P d w.calls → Stands w.calls e k
       → TakenRoot (answer_in_stage w e k p s)
@@ -210,7 +213,7 @@ opened-root P calls k p = record {
 }
 
 -- what an accepted event makes of a world isn't told by the world before
-becomes-other : (w x u : World) (t : Taken) → fault_in t ≡ None → Becomes w t u → Becomes x t u
+becomes-other : (w x u : World) (t : EventResult) → fault_in t ≡ None → Becomes w t u → Becomes x t u
 becomes-other w x u (Refused f) e b = absurd (cc)
 becomes-other w x u (Moved v) e b = b
 becomes-other w x u (Closing v c k l rs ss) e b = b
@@ -222,10 +225,10 @@ module _ (P : Call → Type 0) (fixed : IsFixed P) where
   asked-by w u n q (Some t) p f b =
       let k = sent n q (length w.calls) None in
       let here = opened-root P w.calls k p in
-      becomes-root P fixed (length w.calls) (opened w k) u (ask_at w n q (Some t)) here
-      (to-root P fixed (length w.calls) (opened w k) (length w.calls) k (Some t) here
+      becomes-root P fixed (length w.calls) (open_call w k) u (ask_at w n q (Some t)) here
+      (to-root P fixed (length w.calls) (open_call w k) (length w.calls) k (Some t) here
       (itself P fixed (length w.calls) (w.calls ++ k ∷ []) (length w.calls) k (get-last w.calls k)))
-      (becomes-other w (opened w k) u (ask_at w n q (Some t)) f b)
+      (becomes-other w (open_call w k) u (ask_at w n q (Some t)) f b)
 
   -- what holds of the call that an Ask opens
   pub asked-keeps : (w u : World) (n : ℕ) (q : Query) → P (sent n q (length w.calls) None)

@@ -1,14 +1,14 @@
 -- A reply to an Ask that passes tells what one walk finds.
 use Rattle.std.proofs.Common.{◌≡◌, ℕ, List, length, slice_get, Option, None, Some, Ok, refl, sym, ap, ◌∙◌}
 use Rattle.std.specs.Option.{option_and_then}
-use Rattle.td_audit.specs.Auditing.{EndedIn, RepliedIn, State, asked_of, opening_of}
+use Rattle.td_audit.specs.Auditing.{EndedIn, RepliedIn, AuditState, asked_of, opening_of}
 use Rattle.td_log.specs.Words.{lines_of}
 use Rattle.td_audit.specs.declared.asked.AskedQuery.{AskedQuery}
 use Rattle.td_audit_laws.proofs.Roots.{HasRoot, asked-keeps, root-fixed, run-keeps}
 use Rattle.td_audit_laws.proofs.Schedules.{passes-move, run-of}
 use Rattle.td_audit_laws.specs.Laws.{RepliesAreOfOneWalk, TellsVisit}
 use Rattle.td_log.specs.declared.message.Recorded.{Recorded}
-use Rattle.td_net.specs.Supplies.{trimmed}
+use Rattle.td_net.specs.Supplies.{without_zeros}
 use Rattle.td_net.specs.Worlds.{visit_at, visit_in}
 use Rattle.td_net.specs.declared.call.Call.{Call}
 use Rattle.td_net.specs.declared.call.Stage.{Stage}
@@ -18,12 +18,12 @@ use Rattle.td_walk.specs.declared.trace.Visit.{Visit}
 
 -- ---- what passes
 
-ended-in : (s t : State) (c : ℕ) (a : AskedQuery) (reply : Recorded) (o : Option Visit) → asked_of c s.asked ≡ Some a
+ended-in : (s t : AuditState) (c : ℕ) (a : AskedQuery) (reply : Recorded) (o : Option Visit) → asked_of c s.asked ≡ Some a
     → visit_at s.net.calls c ≡ o → EndedIn s a reply o (Ok t) → (v : Visit) × TellsVisit s c reply v
 ended-in s t c a reply None is at h = absurd (cc)
-ended-in s t c a reply (Some v) is at h = (v, record { asked = a; is = is; ended = at; told = h.0 })
+ended-in s t c a reply (Some v) is at h = (v, record { asked = a; is = is; ended = at; content = h.0 })
 
-replied-in : (s t : State) (c : ℕ) (reply : Recorded) (o : Option AskedQuery) → asked_of c s.asked ≡ o
+replied-in : (s t : AuditState) (c : ℕ) (reply : Recorded) (o : Option AskedQuery) → asked_of c s.asked ≡ o
     → RepliedIn s c reply o (Ok t) → (v : Visit) × TellsVisit s c reply v
 replied-in s t c reply None is h = absurd (cc)
 replied-in s t c reply (Some a) is h = ended-in s t c a reply (visit_at s.net.calls c) is refl h
@@ -54,20 +54,20 @@ ended-call calls c v (Some k) is at =
 
 module _ (one-tree : OneTree) where
   pub replies-of-one-walk : RepliesAreOfOneWalk
-  replies-of-one-walk traders home log names before between s t u v n form q reply reached first ask later told
+  replies-of-one-walk traders home log names before between s t u v n form q reply reached first ask later content
       premises =
       let c = length s.net.calls in
       let earlier = passes-move home names _ s before first in
       let more = passes-move home names t u between later in
       let trees : AllTrees c u.net =
-      one-tree traders home (trimmed (opening_of (lines_of log)).words) earlier.events more.events s.net t.net u.net n q
+      one-tree traders home (without_zeros (opening_of (lines_of log)).words) earlier.events more.events s.net t.net u.net n q
       reached (run-of _ s.net earlier.events earlier.accepted) ask.1 (run-of t.net u.net more.events more.accepted)
       premises in
       let root =
       run-keeps (HasRoot c) (root-fixed c) c t.net u.net more.events
       (asked-keeps (HasRoot c) (root-fixed c) s.net t.net n q refl ask.0 ask.1)
       (run-of t.net u.net more.events more.accepted) in
-      let answer = replied-in u v c reply (asked_of c u.asked) refl told in
+      let answer = replied-in u v c reply (asked_of c u.asked) refl content in
       let call = ended-call u.net.calls c answer.0 (slice_get u.net.calls c) refl answer.1.ended in
       record {
         visit = answer.0;

@@ -4,8 +4,8 @@ ghost use Rattle.td_audit_laws.specs.Laws.{LinesAreSchedules, RepliesAreOfOneWal
 
 use td_net_laws::{events_lead_to_one_world, every_schedule_gives_one_walk};
 
-/// A log has one verdict for the traders of a network. So the verdict of `audit`, want of memory aside, is that one:
-/// Yes exactly where each line passes.
+/// A log has one verdict for the traders of a network. So the verdict of `audit`, running out of memory aside, is that
+/// one: Yes exactly where each line passes.
 pub fn verdicts_are_one()
     ensures { VerdictsAreOne }
 {

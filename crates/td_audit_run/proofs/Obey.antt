@@ -2,7 +2,7 @@
 use Rattle.std.proofs.Common.{◌≡◌, ℕ, Option, Some, None, option_map, sym, subst}
 use Rattle.td_command.specs.Printing.{SinkSeen}
 use Rattle.td_command.specs.Shelves.{Shelves}
-use Rattle.td_make.specs.Generated.{generated}
+use Rattle.td_make.specs.Generated.{generated_file}
 use Rattle.td_audit_run.specs.Audits.{IsUnasked, Obeys, SaysLog}
 use Rattle.td_audit_run.specs.Commands.{Log}
 use Rattle.td_audit_run.specs.Printing.{PrintsOf}
@@ -10,7 +10,7 @@ use Rattle.td_audit_run.specs.declared.audited.Audited.{Audited}
 use Rattle.td_audit_run.specs.declared.audited.Audited.TheVariants.{Usage}
 
 pub by_count : (found : Option ℕ) (count : ℕ) (texts : Shelves) (ended : Audited) (before after : SinkSeen)
-    → found ≡ Some count → PrintsOf SaysLog (generated count) ended before after → IsUnasked texts
+    → found ≡ Some count → PrintsOf SaysLog (generated_file count) ended before after → IsUnasked texts
     → Obeys (option_map Log found) texts ended before after
 by_count found count texts ended before after is prints unasked =
     subst (λ (o : Option ℕ). Obeys (option_map Log o) texts ended before after) (sym is) (prints, unasked)

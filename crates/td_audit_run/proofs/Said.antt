@@ -2,14 +2,14 @@
 use Rattle.std.proofs.Common.{◌≡◌, ℕ, List, Ok, subst, ◌⊎◌}
 use Rattle.td_command.specs.Printing.{SinkSeen}
 use Rattle.td_file.specs.Files.{Opening, opening_of}
-use Rattle.td_audit_run.specs.Printing.{Prints, PrintsOf, PrintsText}
+use Rattle.td_audit_run.specs.Printing.{PrintsVerdict, PrintsOf, PrintsText}
 use Rattle.td_audit_run.specs.declared.audited.Audited.{Audited}
 use Rattle.td_audit_run.specs.declared.audited.Audited.TheVariants.{Usage, Missing, TooLong, Refused, Strange, Memory}
 use Rattle.td_audit_run.specs.declared.audited.Audited.TheVariants.{Printed, Denied, PrintFault}
 
 pub said : (Says : Audited → List ℕ → Type 0) (wanted : Audited) (text : List ℕ) (ended : Audited)
     (before after : SinkSeen) → Says wanted text → Says Printed text ⊎ Says Denied text
-    → PrintsText wanted text ended before after → Prints Says ended before after
+    → PrintsText wanted text ended before after → PrintsVerdict Says ended before after
 said Says wanted text Printed before after says one h = (text, subst (λ (w : Audited). Says w text) h.0 says, h.1)
 said Says wanted text Denied before after says one h = (text, subst (λ (w : Audited). Says w text) h.0 says, h.1)
 said Says wanted text PrintFault before after says one h = (text, one, h)
@@ -28,7 +28,7 @@ as_text wanted text other ended before after same h =
 
 pub with_text : (Says : Opening → Audited → List ℕ → Type 0) (text : List ℕ) (o : Opening) (ended : Audited)
     (before after : SinkSeen)
-    → opening_of text ≡ Ok o → Prints (Says o) ended before after → PrintsOf Says text ended before after
+    → opening_of text ≡ Ok o → PrintsVerdict (Says o) ended before after → PrintsOf Says text ended before after
 with_text Says text o Printed before after e h = (o, e, h)
 with_text Says text o Denied before after e h = (o, e, h)
 with_text Says text o PrintFault before after e h = (o, e, h)

@@ -10,12 +10,12 @@ use Rattle.td_command.specs.Shelves.{Shelves}
 use Rattle.td_file.specs.Files.{Opening, opening_of}
 use Rattle.td_lines.specs.Steps.{refusal}
 use Rattle.td_lines.specs.declared.cause.LineCause.{LineCause}
-use Rattle.td_make.specs.Generated.{generated}
-use Rattle.td_out.specs.Texts.{HasText, Named}
+use Rattle.td_make.specs.Generated.{generated_file}
+use Rattle.td_out.specs.Texts.{HasText, NamedText}
 use Rattle.td_out.specs.declared.fault.TextFault.TheVariants as fault
-use Rattle.td_out.specs.Told.{Tells}
+use Rattle.td_out.specs.SinkTexts.{GivesText}
 use Rattle.td_audit_run.specs.Commands.{Command, Audit, Log, command_of}
-use Rattle.td_audit_run.specs.Printing.{Prints, PrintsOf}
+use Rattle.td_audit_run.specs.Printing.{PrintsVerdict, PrintsOf}
 use Rattle.td_audit_run.specs.Reports.{line_of}
 use Rattle.td_audit_run.specs.Status.{status_of}
 use Rattle.td_audit_run.specs.declared.audited.Audited.{Audited}
@@ -58,38 +58,42 @@ SaysLog o ended text = (ended ≡ Printed) × IsLog o.traders o.home text
 -- ---- an audit
 
 -- The log has this name, and is asked for once the file is accepted.
-pub data AuditsNamed (o : Opening) (told : Option (List Named)) (name : List ℕ) (mid last : ℕ)
+pub data AuditsNamed (o : Opening) (content : Option (List NamedText)) (name : List ℕ)
+    (mid last : ℕ)
     (ended : Audited) (before after : SinkSeen) : Type 0 where
-  missing : HasText told name mid last (Err fault.Failed) → ended ≡ Missing → after ≡ before
-      → AuditsNamed o told name mid last ended before after
-  long : HasText told name mid last (Err fault.TooLong) → ended ≡ TooLong → after ≡ before
-      → AuditsNamed o told name mid last ended before after
-  wanting : ended ≡ Memory → after ≡ before → AuditsNamed o told name mid last ended before after
-  audits : (log : List ℕ) → HasText told name mid last (Ok log)
-      → Prints (SaysVerdict log o) ended before after
-      → AuditsNamed o told name mid last ended before after
+  missing : HasText content name mid last (Err fault.Failed) → ended ≡ Missing → after ≡ before
+      → AuditsNamed o content name mid last ended before after
+  long : HasText content name mid last (Err fault.TooLong) → ended ≡ TooLong → after ≡ before
+      → AuditsNamed o content name mid last ended before after
+  no_memory_outcome : ended ≡ Memory → after ≡ before → AuditsNamed o content name mid last ended
+      before after
+  audits : (log : List ℕ) → HasText content name mid last (Ok log)
+      → PrintsVerdict (SaysVerdict log o) ended before after
+      → AuditsNamed o content name mid last ended before after
 
 -- with the text of a file, which is refused or opens what is audited
-pub data AuditsText (text : List ℕ) (told : Option (List Named)) (name : List ℕ) (mid last : ℕ)
+pub data AuditsText (text : List ℕ) (content : Option (List NamedText)) (name : List ℕ)
+    (mid last : ℕ)
     (ended : Audited) (before after : SinkSeen) : Type 0 where
   refused : (number : ℕ) (why : LineCause) → opening_of text ≡ Err (refusal number why)
       → ended ≡ Refused number why
-      → last ≡ mid → after ≡ before → AuditsText text told name mid last ended before after
-  wanting : ended ≡ Memory → after ≡ before → AuditsText text told name mid last ended before after
+      → last ≡ mid → after ≡ before → AuditsText text content name mid last ended before after
+  no_memory_outcome : ended ≡ Memory → after ≡ before → AuditsText text content name mid last ended
+      before after
   opens : (o : Opening) → opening_of text ≡ Ok o
-      → AuditsNamed o told name mid last ended before after
-      → AuditsText text told name mid last ended before after
+      → AuditsNamed o content name mid last ended before after
+      → AuditsText text content name mid last ended before after
 
 -- with the names of the file and of the log
 pub data AuditsFile (texts : Shelves) (file log : List ℕ) (ended : Audited)
     (before after : SinkSeen) : Type 0 where
-  missing : HasText texts.told file texts.before texts.after (Err fault.Failed) → ended ≡ Missing
+  missing : HasText texts.content file texts.before texts.after (Err fault.Failed) → ended ≡ Missing
       → after ≡ before → AuditsFile texts file log ended before after
-  long : HasText texts.told file texts.before texts.after (Err fault.TooLong) → ended ≡ TooLong
+  long : HasText texts.content file texts.before texts.after (Err fault.TooLong) → ended ≡ TooLong
       → after ≡ before → AuditsFile texts file log ended before after
-  wanting : ended ≡ Memory → after ≡ before → AuditsFile texts file log ended before after
-  has : (mid : ℕ) (text : List ℕ) → HasText texts.told file texts.before mid (Ok text)
-      → AuditsText text texts.told log mid texts.after ended before after
+  no_memory_outcome : ended ≡ Memory → after ≡ before → AuditsFile texts file log ended before after
+  has : (mid : ℕ) (text : List ℕ) → HasText texts.content file texts.before mid (Ok text)
+      → AuditsText text texts.content log mid texts.after ended before after
       → AuditsFile texts file log ended before after
 
 -- ---- a command
@@ -103,12 +107,12 @@ Obeys None texts ended before after = (ended ≡ Usage) × IsUnasked texts × (a
 Obeys (Some (Audit file log)) texts ended before after = AuditsFile texts file log ended before
     after
 Obeys (Some (Log count)) texts ended before after =
-    PrintsOf SaysLog (generated count) ended before after × IsUnasked texts
+    PrintsOf SaysLog (generated_file count) ended before after × IsUnasked texts
 
 -- a run of the program with these words
-pub record Runs (words : List (List ℕ)) (texts : Shelves) (before after : SinkSeen)
+pub record RunsAudit (words : List (List ℕ)) (texts : Shelves) (before after : SinkSeen)
     (written0 written1 : Option (List ℕ)) (faults0 faults1 : ℕ) (status : ℕ) : Type 0 where
   pub ended : Audited
   pub obeys : Obeys (command_of words) texts ended before after
   pub answered : status ≡ status_of ended
-  pub reported : Tells (line_of ended) written0 written1 faults0 faults1
+  pub reported : GivesText (line_of ended) written0 written1 faults0 faults1

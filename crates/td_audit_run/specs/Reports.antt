@@ -1,6 +1,6 @@
 -- What goes to the faults sink.
 use Rattle.std.specs.Prelude.{ℕ, List, [], codes}
-use Rattle.td_command.specs.Reports.{cause_end, numbered, status_line}
+use Rattle.td_command.specs.Reports.{cause_end, with_number, status_line}
 use Rattle.td_audit_run.specs.declared.audited.Audited.{Audited}
 use Rattle.td_audit_run.specs.declared.audited.Audited.TheVariants.{Usage, Missing, TooLong, Refused, Strange, Memory}
 use Rattle.td_audit_run.specs.declared.audited.Audited.TheVariants.{Printed, Denied, PrintFault}
@@ -10,8 +10,8 @@ abbrev pub line_of : Audited → List ℕ
 line_of Usage = codes "usage\n"
 line_of Missing = status_line 10
 line_of TooLong = codes "too long\n"
-line_of (Refused number cause) = numbered (codes "line ") number (cause_end cause)
-line_of (Strange number) = numbered (codes "line ") number (codes ": log\n")
+line_of (Refused number cause) = with_number (codes "line ") number (cause_end cause)
+line_of (Strange number) = with_number (codes "line ") number (codes ": log\n")
 line_of Memory = status_line 9
 line_of Printed = []
 line_of Denied = status_line 12

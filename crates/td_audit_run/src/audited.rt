@@ -18,7 +18,7 @@ pub enum Audited {
     Refused(u32, LineCause),
     /// The line of this number of the log isn't in its table.
     Strange(u32),
-    /// Want of memory, before anything was printed.
+    /// Out of memory, before anything was printed.
     Memory,
     /// All was printed: the log is what the network does, or a log was made.
     Printed,

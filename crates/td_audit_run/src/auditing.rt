@@ -3,7 +3,7 @@
 ghost use Rattle.std.specs.Prelude.{◌≡◌, ◌≤◌, length, IfOk};
 ghost use Rattle.td_audit_run.specs.Audits.{AuditsFile, AuditsNamed, AuditsText, SaysVerdict, cause_word, no_line};
 ghost use Rattle.td_audit_run.specs.Audits.{yes_line};
-ghost use Rattle.td_audit_run.specs.Printing.{Prints, PrintsText};
+ghost use Rattle.td_audit_run.specs.Printing.{PrintsVerdict, PrintsText};
 ghost use Rattle.td_audit_run.specs.declared.audited.Audited.TheVariants as audited;
 ghost use Rattle.td_command.specs.Printing.{sink_seen};
 ghost use Rattle.td_command.specs.Shelves.{shelves};
@@ -27,7 +27,7 @@ pub(crate) fn audit_file<F: Texts, K: Sink>(
     files: &mut F,
     sink: &mut K,
 ) -> Audited
-    ensures { AuditsFile (shelves (F.told files.old) (F.faults files.old) (F.faults files.new))
+    ensures { AuditsFile (shelves (F.content files.old) (F.faults files.old) (F.faults files.new))
         file.now log.now result (sink_seen (K.written sink.old) (K.faults sink.old))
         (sink_seen (K.written sink.new) (K.faults sink.new)) }
 {
@@ -48,7 +48,7 @@ fn audit_text<F: Texts, K: Sink>(
     sink: &mut K,
 ) -> Audited
     requires { length text.now ≤ 67108864 }
-    ensures { AuditsText text.now (F.told files.old) log.now (F.faults files.old)
+    ensures { AuditsText text.now (F.content files.old) log.now (F.faults files.old)
         (F.faults files.new) result (sink_seen (K.written sink.old) (K.faults sink.old))
         (sink_seen (K.written sink.new) (K.faults sink.new)) }
 {
@@ -68,7 +68,7 @@ fn audit_named<F: Texts, K: Sink>(
     sink: &mut K,
 ) -> Audited
     requires { IsAddress opened.home }
-    ensures { AuditsNamed (seen opened) (F.told files.old) log.now (F.faults files.old)
+    ensures { AuditsNamed (seen opened) (F.content files.old) log.now (F.faults files.old)
         (F.faults files.new) result (sink_seen (K.written sink.old) (K.faults sink.old))
         (sink_seen (K.written sink.new) (K.faults sink.new)) }
 {
@@ -84,7 +84,7 @@ fn audit_named<F: Texts, K: Sink>(
 fn audit_opened<K: Sink>(alloc: Global, opened: Opened, log: &[u8], sink: &mut K) -> Audited
     requires home { IsAddress opened.home }
     requires short { length log.now ≤ 67108864 }
-    ensures { Prints (SaysVerdict log.now (seen opened)) result
+    ensures { PrintsVerdict (SaysVerdict log.now (seen opened)) result
         (sink_seen (K.written sink.old) (K.faults sink.old))
         (sink_seen (K.written sink.new) (K.faults sink.new)) }
 {

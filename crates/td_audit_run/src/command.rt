@@ -1,7 +1,7 @@
 //! A command on logs.
 
 ghost use Rattle.std.specs.Prelude.{◌≡◌, map, string_bytes};
-ghost use Rattle.td_audit_run.specs.Audits.{Obeys, Runs};
+ghost use Rattle.td_audit_run.specs.Audits.{Obeys, RunsAudit};
 ghost use Rattle.td_audit_run.specs.Commands.{audit_command, command_of, log_command};
 ghost use Rattle.td_command.specs.Printing.{sink_seen};
 ghost use Rattle.td_command.specs.Shelves.{Shelves, shelves};
@@ -25,7 +25,7 @@ use td_out::{Sink, Texts};
 /// a line that isn't in the log's table, `too long` or `status N`.
 ///
 /// The status is 0 where `yes` or a log was printed, 2 where the arguments are no such command, 3 where the file is
-/// refused, or the file or the log is too long, 7 where the sink failed, 9 for want of memory, 10 where the file or the
+/// refused, or the file or the log is too long, 7 where the sink failed, 9 when out of memory, 10 where the file or the
 /// log can't be had, 12 where `no` was printed, and 13 where a line isn't in the log's table.
 pub fn run_log<F: Texts, K: Sink, E: Sink>(
     alloc: Global,
@@ -34,8 +34,8 @@ pub fn run_log<F: Texts, K: Sink, E: Sink>(
     sink: &mut K,
     faults: &mut E,
 ) -> u8
-    ensures { Runs (map string_bytes args.now)
-        (shelves (F.told files.old) (F.faults files.old) (F.faults files.new))
+    ensures { RunsAudit (map string_bytes args.now)
+        (shelves (F.content files.old) (F.faults files.old) (F.faults files.new))
         (sink_seen (K.written sink.old) (K.faults sink.old))
         (sink_seen (K.written sink.new) (K.faults sink.new)) (E.written faults.old)
         (E.written faults.new) (E.faults faults.old) (E.faults faults.new) result }
@@ -48,7 +48,7 @@ pub fn run_log<F: Texts, K: Sink, E: Sink>(
 /// The same without the report.
 fn obey<F: Texts, K: Sink>(alloc: Global, args: &[String], files: &mut F, sink: &mut K) -> Audited
     ensures { Obeys (command_of (map string_bytes args.now))
-        (shelves (F.told files.old) (F.faults files.old) (F.faults files.new)) result
+        (shelves (F.content files.old) (F.faults files.old) (F.faults files.new)) result
         (sink_seen (K.written sink.old) (K.faults sink.old))
         (sink_seen (K.written sink.new) (K.faults sink.new)) }
 {
@@ -95,7 +95,7 @@ fn audit_named<F: Texts, K: Sink>(
     sink: &mut K,
 ) -> Audited
     ensures { Obeys (audit_command word.now file.now log.now)
-        (shelves (F.told files.old) (F.faults files.old) (F.faults files.new)) result
+        (shelves (F.content files.old) (F.faults files.old) (F.faults files.new)) result
         (sink_seen (K.written sink.old) (K.faults sink.old))
         (sink_seen (K.written sink.new) (K.faults sink.new)) }
 {

@@ -2,10 +2,10 @@
 
 ghost use Rattle.std.specs.Prelude.{◌≤◌};
 ghost use Rattle.td_audit_run.specs.Audits.{SaysLog};
-ghost use Rattle.td_audit_run.specs.Printing.{Prints, PrintsOf};
+ghost use Rattle.td_audit_run.specs.Printing.{PrintsVerdict, PrintsOf};
 ghost use Rattle.td_command.specs.Printing.{sink_seen};
 ghost use Rattle.td_file.specs.Files.{seen};
-ghost use Rattle.td_make.specs.Generated.{generated};
+ghost use Rattle.td_make.specs.Generated.{generated_file};
 ghost use Rattle.td_objects.specs.References.{IsAddress};
 
 use crate::audited::Audited;
@@ -23,7 +23,7 @@ const LONGEST_TEXT: usize = 67_108_864;
 pub(crate) fn print_log<K: Sink>(alloc: Global, count: u32, sink: &mut K) -> Audited
     requires least { 1 ≤ count }
     requires most { count ≤ 64 }
-    ensures { PrintsOf SaysLog (generated count) result
+    ensures { PrintsOf SaysLog (generated_file count) result
         (sink_seen (K.written sink.old) (K.faults sink.old))
         (sink_seen (K.written sink.new) (K.faults sink.new)) }
 {
@@ -51,7 +51,7 @@ fn log_text<K: Sink>(alloc: Global, text: &[u8], sink: &mut K) -> Audited
 /// Prints the log of what was opened.
 fn log_opened<K: Sink>(alloc: Global, opened: Opened, sink: &mut K) -> Audited
     requires { IsAddress opened.home }
-    ensures { Prints (SaysLog (seen opened)) result
+    ensures { PrintsVerdict (SaysLog (seen opened)) result
         (sink_seen (K.written sink.old) (K.faults sink.old))
         (sink_seen (K.written sink.new) (K.faults sink.new)) }
 {

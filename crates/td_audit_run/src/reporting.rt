@@ -1,8 +1,8 @@
 //! The line that a command on logs leaves on the faults sink.
 
 ghost use Rattle.td_audit_run.specs.Reports.{line_of};
-ghost use Rattle.td_command.specs.Reports.{numbered};
-ghost use Rattle.td_out.specs.Told.{Tells};
+ghost use Rattle.td_command.specs.Reports.{with_number};
+ghost use Rattle.td_out.specs.SinkTexts.{GivesText};
 
 use crate::audited::Audited;
 use td_command::{Ended, report as report_command, write_numbered};
@@ -10,7 +10,7 @@ use td_out::Sink;
 
 /// Writes the line for a command that ended so. Where the sink fails, the rest of the line is lost.
 pub(crate) fn report<E: Sink>(faults: &mut E, ended: Audited)
-    ensures { Tells (line_of ended) (E.written faults.old) (E.written faults.new)
+    ensures { GivesText (line_of ended) (E.written faults.old) (E.written faults.new)
         (E.faults faults.old) (E.faults faults.new) }
 {
     match ended {
@@ -28,7 +28,7 @@ pub(crate) fn report<E: Sink>(faults: &mut E, ended: Audited)
 
 /// A number between two texts.
 fn write_line<E: Sink>(faults: &mut E, before: &[u8], number: u32, after: &[u8])
-    ensures { Tells (numbered before.now number after.now) (E.written faults.old)
+    ensures { GivesText (with_number before.now number after.now) (E.written faults.old)
         (E.written faults.new) (E.faults faults.old) (E.faults faults.new) }
 {
     let _ = write_numbered(faults, before, number, after);

@@ -12,10 +12,10 @@ use Rattle.td_cdr.specs.Reading.{◌>>=◌}
 use Rattle.td_cdr.specs.Text.{HasNoNul}
 use Rattle.td_file.proofs.Rows.{apart}
 use Rattle.td_file.specs.Files.{Opening, home_address, opening, opening_of, opening_with, unless_refused}
-use Rattle.td_file.specs.Openings.{AreApart, all_traders, later_refusal, missing_in}
+use Rattle.td_file.specs.Openings.{HaveDistinctNames, all_traders, later_refusal, missing_in}
 use Rattle.td_file_laws.proofs.WritableOpening.{files-open-writable}
 use Rattle.td_lines.proofs.Sounding.{sound}
-use Rattle.td_lines.specs.Laws.{IsSound}
+use Rattle.td_lines.specs.Laws.{IsValidScript}
 use Rattle.td_lines.specs.Scripts.{script_of}
 use Rattle.td_lines.specs.declared.entry.Home.{Home}
 use Rattle.td_lines.specs.declared.entry.Refused.{Refused}
@@ -50,7 +50,7 @@ at-home home seed (Ok us) (Some f) here all o e = absurd (cc)
 at-home home seed (Ok us) None here all o e =
     subst IsPlaced (same-opening (opening home seed us) o e) (all us refl, here)
 
-with-home : (s : Script) (h : Option Home) (o : Opening) → AreApart s.traders → IfSome h IsHome
+with-home : (s : Script) (h : Option Home) (o : Opening) → HaveDistinctNames s.traders → IfSome h IsHome
     → opening_with s h ≡ Ok o → IsPlaced o
 with-home s None o names here e = absurd (cc)
 with-home s (Some home) o names here e =
@@ -62,7 +62,7 @@ placed : (text : List ℕ) (o : Opening) → opening_of text ≡ Ok o → IsPlac
 unfolding opening_of
 placed text o e =
     let s : Script = script_of text in
-    let h : IsSound s = sound text in
+    let h : IsValidScript s = sound text in
     with-home s s.home o h.distinct (sound-home s.home h.host h.short h.minor) e
 
 files-opened : (text : List ℕ) (o : Opening) → AreOctets text → opening_of text ≡ Ok o → AreOpened o.traders

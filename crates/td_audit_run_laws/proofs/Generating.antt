@@ -10,10 +10,11 @@ use Rattle.td_cdr.specs.Lawful.{AreOctets}
 use Rattle.td_cdr.specs.Names.{is_digit}
 use Rattle.td_ior.proofs.Numbers.{and-left, and-right}
 use Rattle.td_ior.specs.Number.{number_after}
-use Rattle.td_make.specs.Generated.{chord_after, cost, cost_line, first_offers, first_traders, generated, heading}
+use Rattle.td_make.specs.Generated.{chord_after, cost, cost_line, first_offers, first_traders, generated_file}
+use Rattle.td_make.specs.Generated.{trader_heading}
 use Rattle.td_make.specs.Generated.{link_line, link_lines, next_after, offer_line, offer_lines, offer_type}
 use Rattle.td_make.specs.Generated.{trader_lines}
-use Rattle.td_forms.specs.Counted.{counted}
+use Rattle.td_forms.specs.Counted.{label_number}
 
 abbrev is_small : ℕ → Bool
 is_small b = nat_lt b 256
@@ -55,7 +56,7 @@ digits-small (x ∷ xs) h =
 number-small : (n : ℕ) → n < 2 ^ 64 → small (decimal n) ≡ true
 number-small n h = digits-small (decimal n) (digits_decimal own n h)
 
-counted-small : (label : List ℕ) (n : ℕ) → small label ≡ true → n < 2 ^ 64 → small (counted label n) ≡ true
+counted-small : (label : List ℕ) (n : ℕ) → small label ≡ true → n < 2 ^ 64 → small (label_number label n) ≡ true
 counted-small label n l h = joined label (decimal n) l (number-small n h)
 
 -- ---- the lines
@@ -73,15 +74,15 @@ offer-small trader number t n =
     let placed = counted-small (codes " ref:IDL:Item:1.0,h,9,") trader refl (omega (arith, t)) in
     let counted_one = counted-small (codes ".") number refl n in
     let first : small (offer_line trader number) ≡ true =
-    joined (codes "offer " ++ offer_type number ++ counted (codes " ref:IDL:Item:1.0,h,9,") trader
-    ++ counted (codes ".") number) (codes "\n")
-    (joined (codes "offer " ++ offer_type number ++ counted (codes " ref:IDL:Item:1.0,h,9,") trader)
-    (counted (codes ".") number)
-    (joined (codes "offer " ++ offer_type number) (counted (codes " ref:IDL:Item:1.0,h,9,") trader) named placed)
+    joined (codes "offer " ++ offer_type number ++ label_number (codes " ref:IDL:Item:1.0,h,9,") trader
+    ++ label_number (codes ".") number) (codes "\n")
+    (joined (codes "offer " ++ offer_type number ++ label_number (codes " ref:IDL:Item:1.0,h,9,") trader)
+    (label_number (codes ".") number)
+    (joined (codes "offer " ++ offer_type number) (label_number (codes " ref:IDL:Item:1.0,h,9,") trader) named placed)
     counted_one) refl in
     let few : cost trader number < 2 ^ 64 = omega arith in
     let second : small (cost_line trader number) ≡ true =
-    joined (counted (codes "with ulong Cost ") (cost trader number)) (codes "\n")
+    joined (label_number (codes "with ulong Cost ") (cost trader number)) (codes "\n")
     (counted-small (codes "with ulong Cost ") (cost trader number) refl few) refl in
     joined (offer_line trader number) (cost_line trader number) first second
 
@@ -94,7 +95,7 @@ offers-small trader (suc done) t c =
 link-small : (label : List ℕ) (trader : ℕ) → small label ≡ true → trader < 2 ^ 64
     → small (link_line label trader) ≡ true
 link-small label trader l t =
-    joined (counted label trader) (codes " always always\n") (counted-small label trader l t) refl
+    joined (label_number label trader) (codes " always always\n") (counted-small label trader l t) refl
 
 links-small : (count trader : ℕ) → 1 ≤ count → count ≤ 64 → small (link_lines count trader) ≡ true
 links-small count trader least most =
@@ -107,9 +108,9 @@ links-small count trader least most =
 
 trader-small : (count trader : ℕ) → 1 ≤ count → count ≤ 64 → trader ≤ 64 → small (trader_lines count trader) ≡ true
 trader-small count trader least most t =
-    joined (heading trader ++ first_offers trader 10) (link_lines count trader)
-    (joined (heading trader) (first_offers trader 10)
-    (joined (counted (codes "trader T") trader) (codes "\ntype Base -\nprop mandatory ulong Cost\ntype Sub - Base\n")
+    joined (trader_heading trader ++ first_offers trader 10) (link_lines count trader)
+    (joined (trader_heading trader) (first_offers trader 10)
+    (joined (label_number (codes "trader T") trader) (codes "\ntype Base -\nprop mandatory ulong Cost\ntype Sub - Base\n")
     (counted-small (codes "trader T") trader refl (omega (arith, t))) refl)
     (offers-small trader 10 t (omega arith)))
     (links-small count trader least most)
@@ -120,8 +121,8 @@ traders-small count (suc done) least most d =
     joined (first_traders count done) (trader_lines count (suc done))
     (traders-small count done least most (omega (arith, d))) (trader-small count (suc done) least most d)
 
-pub generated-octets : (count : ℕ) → 1 ≤ count → count ≤ 64 → AreOctets (generated count)
+pub generated-octets : (count : ℕ) → 1 ≤ count → count ≤ 64 → AreOctets (generated_file count)
 generated-octets count least most =
-    small-octets (generated count)
+    small-octets (generated_file count)
     (joined (codes "address 127.0.0.1 2809\n") (first_traders count count) refl
     (traders-small count count least most most))

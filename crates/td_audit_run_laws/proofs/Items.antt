@@ -2,17 +2,17 @@
 use Rattle.std.proofs.Common.{ℕ, ◌+◌, ◌^◌, ◌<◌, ◌≤◌, List, [], ◌∷◌, ◌++◌, codes, length, arith, length-append}
 use Rattle.std.proofs.lemmas.Fmt.{length-decimal-le}
 use Rattle.std.specs.Fmt.{decimal}
-use Rattle.td_codes.specs.declared.reference.Ior.{Ior}
+use Rattle.td_typecode.specs.declared.reference.Ior.{Ior}
 use Rattle.td_ior.specs.Profiles.{iiop_tag, made_octets}
 use Rattle.td_iter.specs.Heads.{IsSmallReference}
 use Rattle.td_make_laws.specs.Said.{item}
-use Rattle.td_forms.specs.Counted.{counted}
+use Rattle.td_forms.specs.Counted.{label_number}
 
 digits-few : (n : ℕ) → n < 2 ^ 64 → length (decimal n) ≤ 20
 digits-few n h = length-decimal-le 20 n (omega arith) (omega (arith, h)) h
 
 abbrev key : (trader number : ℕ) → List ℕ
-key trader number = counted (counted [] trader ++ codes ".") number
+key trader number = label_number (label_number [] trader ++ codes ".") number
 
 key-few : (trader number : ℕ) → trader < 2 ^ 64 → number < 2 ^ 64 → length (key trader number) ≤ 41
 key-few trader number low few =

@@ -10,7 +10,7 @@ use Rattle.td_file.specs.Files.{Opening, opening_of}
 use Rattle.td_lines.specs.declared.entry.Refused.{Refused}
 use Rattle.td_log_laws.proofs.Shortness.{made-short}
 use Rattle.td_log_laws.proofs.Weighing.{made-fits}
-use Rattle.td_make.specs.Generated.{generated}
+use Rattle.td_make.specs.Generated.{generated_file}
 use Rattle.td_make_file_laws.specs.Opened.{GeneratedOpen}
 use Rattle.td_make_laws.specs.Said.{GeneratedAreRead, first_names, name_of}
 use Rattle.td_trader.specs.PlainTraders.{PlainTrader}
@@ -26,7 +26,7 @@ mapped (t ∷ ts) = let later = mapped ts in omega (arith, later)
 
 -- a ring has as many traders
 traders-count : GeneratedOpen → (count : ℕ) (o : Opening) → 1 ≤ count → count ≤ 64
-    → opening_of (generated count) ≡ Ok o → length o.traders ≡ count
+    → opening_of (generated_file count) ≡ Ok o → length o.traders ≡ count
 traders-count opens count o least most opened =
     let known = opens count least most in
     let both : ◌≡◌ {A = Result Opening Refused} (Ok known.opening) (Ok o) = sym known.opened ∙ opened in
@@ -46,11 +46,11 @@ rings-short read opens count o log least most opened is =
 pub rings-fit : GeneratedAreRead → GeneratedOpen → RingLogsFit
 rings-fit read opens count o log least most opened is =
     let all = traders-count opens count o least most opened in
-    made-fits o.traders o.home log (files-at (generated count) o opened)
+    made-fits o.traders o.home log (files-at (generated_file count) o opened)
     (generated-sparse read count o least most opened) (generated-small read count o least most opened)
     (omega (arith, all, most)) is
 
 pub rings-right : VerdictsAreOne → GeneratedAreRead → GeneratedOpen → RingLogsAreRight
 rings-right one read opens count o log v least most opened is audit =
-    files-right one (generated count) log o v (generated-octets count least most) opened is
+    files-right one (generated_file count) log o v (generated-octets count least most) opened is
     (let fits = rings-fit read opens count o log least most opened is in omega (arith, fits)) audit

@@ -10,14 +10,14 @@ use Rattle.td_admin.specs.Repositories.{types_cause, with_types}
 use Rattle.td_cdr.specs.Reading.{◌>>=◌}
 use Rattle.td_changes.specs.Applying.{comes_to}
 use Rattle.td_changes.specs.Histories.{after_all}
-use Rattle.td_codes.specs.declared.reference.Ior.{Ior}
+use Rattle.td_typecode.specs.declared.reference.Ior.{Ior}
 use Rattle.td_eval.specs.Properties.{property}
 use Rattle.td_file.specs.Files.{Opening, home_address, opening, opening_of, opening_with, unless_refused}
-use Rattle.td_file.specs.Openings.{all_traders, behind, bounds, change_of, entered, later_refusal, missing_in}
+use Rattle.td_file.specs.Openings.{all_traders, behind, bounds, change_of, apply_entry, later_refusal, missing_in}
 use Rattle.td_file.specs.Openings.{new_store, opening_store, store_after, trader_of}
 use Rattle.td_lines.specs.Scripts.{script_of}
-use Rattle.td_lines.specs.declared.entry.Entry.{Entry}
-use Rattle.td_lines.specs.declared.entry.Entry.TheVariants as entry
+use Rattle.td_lines.specs.declared.entry.FileEntry.{FileEntry}
+use Rattle.td_lines.specs.declared.entry.FileEntry.TheVariants as entry
 use Rattle.td_lines.specs.declared.entry.Home.{Home}
 use Rattle.td_lines.specs.declared.entry.Numbered.{Numbered}
 use Rattle.td_lines.specs.declared.entry.Refused.{Refused}
@@ -26,29 +26,30 @@ use Rattle.td_lines.specs.declared.entry.TraderScript.{TraderScript}
 use Rattle.td_iter.specs.Heads.{IsSmallReference}
 use Rattle.td_audit_run_laws.proofs.Items.{item-small}
 use Rattle.td_store.specs.declared.record.OfferRecord.{OfferRecord}
-use Rattle.td_log_laws.specs.Short.{ArePlain, HasSmallReferences, IsPlain, SparseTrader}
-use Rattle.td_make.specs.Generated.{generated}
-use Rattle.td_make_laws.specs.Said.{Asked, GeneratedAreRead, asked, costing, entries_in, head_entries, link_entries}
+use Rattle.td_log_laws.specs.Short.{ArePlain, HasSmallReferences, IsStaticOffer, SparseTrader}
+use Rattle.td_make.specs.Generated.{generated_file}
+use Rattle.td_make_laws.specs.Said.{PlainScript, GeneratedAreRead, plain_script, cost_property, entries_in}
+use Rattle.td_make_laws.specs.Said.{head_entries, link_entries}
 use Rattle.td_make_laws.specs.Said.{offer_entries, offer_entry, ring_trader, ring_traders, type_entries}
 use Rattle.td_ops.specs.declared.call.Change.TheVariants as change
 use Rattle.td_ops.specs.declared.outcome.Reply.{Reply}
-use Rattle.td_ops.specs.declared.outcome.Reply.TheVariants as told
-use Rattle.td_register.specs.Causes.{Cause, Comes, applied, unless}
+use Rattle.td_ops.specs.declared.outcome.Reply.TheVariants as content
+use Rattle.td_register.specs.Causes.{Cause, ChangeResult, effect_of, unless}
 use Rattle.td_register.specs.Ids.{id_of}
-use Rattle.td_register.specs.Registers.{export_cause, exported, with_offer}
+use Rattle.td_register.specs.Registers.{export_cause, exported_offer, with_offer}
 use Rattle.td_register.specs.Stores.{Store}
 use Rattle.td_register.specs.declared.refusal.Refusal.TheVariants.{Raised, Limit, NotSupported}
-use Rattle.td_trader.specs.PlainTraders.{PlainTrader, opened}
+use Rattle.td_trader.specs.PlainTraders.{PlainTrader, new_trader}
 use Rattle.td_types.proofs.Sequences.{each-append}
 use Rattle.td_types.specs.Calls as types
 use Rattle.td_objects.specs.References.{lookup_reference, register_reference}
-use Rattle.td_types.specs.Repository.{Declared}
+use Rattle.td_types.specs.Repository.{InterfaceBases}
 use Rattle.td_value.specs.declared.enumerations.FollowOption.{FollowOption}
 use Rattle.td_value.specs.declared.structures.PropStruct.{PropStruct}
 use Rattle.td_value.specs.declared.structures.Property.{Property}
 use Rattle.td_walk.specs.Resolving.{dynamic_among, dynamic_named, dynamic_of, members_in}
-use Rattle.td_codes.specs.Labels.{Held}
-use Rattle.td_codes.specs.Layers.{value-ulong}
+use Rattle.td_typecode.specs.Labels.{ValueLayer}
+use Rattle.td_typecode.specs.Layers.{value-ulong}
 use Rattle.td_walk.specs.declared.trace.Address.{Address}
 
 -- ---- a store so far
@@ -69,37 +70,37 @@ if-none : {X : Type 0} (b : Bool) (o : Option X) → o ≡ None → cond b o Non
 if-none true o e = e
 if-none false o e = refl
 
-cost-static : (amount : ℕ) → dynamic_of (costing amount).value ≡ None
+cost-static : (amount : ℕ) → dynamic_of (cost_property amount).value ≡ None
 unfolding dynamic_of
 cost-static amount =
-    if-none _ _ (ap (λ (l : Held). dynamic_among (members_in l)) (value-ulong amount))
+    if-none _ _ (ap (λ (l : ValueLayer). dynamic_among (members_in l)) (value-ulong amount))
 
-named-static : (amount : ℕ) (name : List ℕ) → dynamic_named (costing amount ∷ []) name ≡ None
+named-static : (amount : ℕ) (name : List ℕ) → dynamic_named (cost_property amount ∷ []) name ≡ None
 unfolding dynamic_named property
-named-static amount name = by (bytes_eq (costing amount).name name) where
+named-static amount name = by (bytes_eq (cost_property amount).name name) where
   by : (b : Bool)
-      → option_and_then dynamic_of (option_map (λ (p : Property). p.value) (cond b (Some (costing amount)) None)) ≡ None
+      → option_and_then dynamic_of (option_map (λ (p : Property). p.value) (cond b (Some (cost_property amount)) None)) ≡ None
   by true = cost-static amount
   by false = refl
 
 offer-plain : (s : Store) (r : Ior) (name : List ℕ) (amount : ℕ)
-    → IsPlain (exported s r name (costing amount ∷ []))
+    → IsStaticOffer (exported_offer s r name (cost_property amount ∷ []))
 offer-plain s r name amount = record { ordinary = refl; static = named-static amount }
 
 -- ---- what an entry of a ring asks for, and how many links it adds
 
-data RingEntry : Entry → ℕ → Type 0 where
+data RingEntry : FileEntry → ℕ → Type 0 where
   typed : (name if_name : List ℕ) (props : List PropStruct) (supers : List (List ℕ))
       → RingEntry (entry.Change (change.AddType name if_name props supers)) 0
   offered : (r : Ior) (name : List ℕ) (amount : ℕ) → IsSmallReference r
-      → RingEntry (entry.Change (change.Export r name (costing amount ∷ []))) 0
+      → RingEntry (entry.Change (change.Export r name (cost_property amount ∷ []))) 0
   linked : (name trader : List ℕ) (pass limiting : FollowOption) → RingEntry (entry.Link name trader pass limiting) 1
 
-data RingEntries : List Entry → ℕ → Type 0 where
+data RingEntries : List FileEntry → ℕ → Type 0 where
   no_entry : RingEntries [] 0
-  one_more : {e : Entry} {es : List Entry} {m n : ℕ} → RingEntry e m → RingEntries es n → RingEntries (e ∷ es) (m + n)
+  one_more : {e : FileEntry} {es : List FileEntry} {m n : ℕ} → RingEntry e m → RingEntries es n → RingEntries (e ∷ es) (m + n)
 
-both-entries : (es fs : List Entry) (m n : ℕ) → RingEntries es m → RingEntries fs n → RingEntries (es ++ fs) (m + n)
+both-entries : (es fs : List FileEntry) (m n : ℕ) → RingEntries es m → RingEntries fs n → RingEntries (es ++ fs) (m + n)
 both-entries [] fs m n no_entry k = subst (RingEntries fs) (let same : n ≡ 0 + n = omega arith in same) k
 both-entries (e ∷ es) fs m n (one_more {m = a} {n = b} h rest) k =
     subst (RingEntries (e ∷ es ++ fs)) (let same : a + (b + n) ≡ a + b + n = omega arith in same)
@@ -121,7 +122,7 @@ trader-ring count trader low =
 
 -- ---- what comes of an entry
 
-abbrev Kept : (Store → Type 0) → Comes → Type 0
+abbrev Kept : (Store → Type 0) → ChangeResult → Type 0
 Kept P (Ok x) = P x.1
 Kept P (Err f) = Unit {0}
 
@@ -129,11 +130,11 @@ unless-kept : (P : Store → Type 0) (c : Cause) (r : Reply) (after : Store) →
 unless-kept P None r after h = h
 unless-kept P (Some f) r after h = tt
 
-types-kept : (n : ℕ) (s : Store) (c : types.Comes) → SparseBy n s → SparseBy n (with_types s c)
+types-kept : (n : ℕ) (s : Store) (c : types.RepositoryResult) → SparseBy n s → SparseBy n (with_types s c)
 types-kept n s (Ok answer) h = record { offers = h.offers; small = h.small; links = h.links; hops = h.hops }
 types-kept n s (Err f) h = h
 
-step-kept : (home : Address) (n : ℕ) (s : Store) (e : Entry) (m : ℕ) → RingEntry e m → SparseBy n s
+step-kept : (home : Address) (n : ℕ) (s : Store) (e : FileEntry) (m : ℕ) → RingEntry e m → SparseBy n s
     → Kept (SparseBy (n + m)) (comes_to s (change_of home e))
 unfolding comes_to
 step-kept home n s e m (typed name if_name props supers) h =
@@ -142,22 +143,22 @@ step-kept home n s e m (typed name if_name props supers) h =
     (let c = types.add_type s.types name if_name props supers in
     unless-kept (SparseBy n) (types_cause c) _ (with_types s c) (types-kept n s c h))
 step-kept home n s e m (offered r name amount small) h =
-    subst (λ (k : ℕ). Kept (SparseBy k) (comes_to s (change.Export r name (costing amount ∷ []))))
+    subst (λ (k : ℕ). Kept (SparseBy k) (comes_to s (change.Export r name (cost_property amount ∷ []))))
     (let same : n ≡ n + 0 = omega arith in same)
-    (unless-kept (SparseBy n) (export_cause s r name (costing amount ∷ [])) (told.Id (id_of (s.last_offer + 1)))
-    (with_offer s (exported s r name (costing amount ∷ [])))
+    (unless-kept (SparseBy n) (export_cause s r name (cost_property amount ∷ [])) (content.Id (id_of (s.last_offer + 1)))
+    (with_offer s (exported_offer s r name (cost_property amount ∷ [])))
     (record {
-      offers = each-append IsPlain s.offers (exported s r name (costing amount ∷ []) ∷ []) h.offers
+      offers = each-append IsStaticOffer s.offers (exported_offer s r name (cost_property amount ∷ []) ∷ []) h.offers
           (offer-plain s r name amount, tt);
       small = each-append (λ (o : OfferRecord). IsSmallReference o.reference) s.offers
-          (exported s r name (costing amount ∷ []) ∷ []) h.small (small, tt);
+          (exported_offer s r name (cost_property amount ∷ []) ∷ []) h.small (small, tt);
       links = h.links;
       hops = h.hops;
     }))
 step-kept home n s e m (linked name trader pass limiting) h =
     let target : Ior = lookup_reference home trader in
     let register : Option Ior = Some (register_reference home trader) in
-    unless-kept (SparseBy (n + 1)) (add_link_cause s name target pass limiting register) told.Nothing
+    unless-kept (SparseBy (n + 1)) (add_link_cause s name target pass limiting register) content.Nothing
     (record s { links = s.links ++ new_links name target pass limiting register })
     (record {
       offers = h.offers;
@@ -173,8 +174,8 @@ ok-same x y e = cc
 never-ok : {X F : Type 0} (f : F) (y : X) → ◌≡◌ {A = Result X F} (Err f) (Ok y) → ⊥
 never-ok f y e = absurd (cc)
 
-entered-kept : (P : Store → Type 0) (s : Store) (c : Comes) (line : ℕ) (t : Store) → Kept P c
-    → entered line (applied s c) ≡ Ok t → P t
+entered-kept : (P : Store → Type 0) (s : Store) (c : ChangeResult) (line : ℕ) (t : Store) → Kept P c
+    → apply_entry line (effect_of s c) ≡ Ok t → P t
 entered-kept P s (Ok x) line t h e = subst P (ok-same x.1 t e) h
 entered-kept P s (Err (Raised x)) line t h e = absurd (never-ok _ t e)
 entered-kept P s (Err Limit) line t h e = absurd (never-ok _ t e)
@@ -201,10 +202,10 @@ entries-kept home (one ∷ others) n m s u (one_more {m = a} {n = b} first rest)
 
 -- ---- traders
 
-abbrev IsRing : Asked → Type 0
+abbrev IsRing : PlainScript → Type 0
 IsRing a = RingEntries a.entries 2
 
-new-sparse : (home : Address) (name : List ℕ) (ds : Declared) → SparseBy 0 (new_store home name ds)
+new-sparse : (home : Address) (name : List ℕ) (ds : InterfaceBases) → SparseBy 0 (new_store home name ds)
 unfolding new_store
 new-sparse home name ds = record { offers = tt; small = tt; links = omega arith; hops = omega arith }
 
@@ -212,18 +213,18 @@ new-sparse home name ds = record { offers = tt; small = tt; links = omega arith;
 abbrev IsSmallRing : PlainTrader → Type 0
 IsSmallRing u = SparseTrader u × HasSmallReferences u
 
-one-sparse : (home : Address) (t : TraderScript) → IsRing (asked t) → (r : Result Store Refused)
-    → opening_store home t ≡ r → (u : PlainTrader) → (r >>= λ s. Ok (opened t.name s bounds)) ≡ Ok u → IsSmallRing u
+one-sparse : (home : Address) (t : TraderScript) → IsRing (plain_script t) → (r : Result Store Refused)
+    → opening_store home t ≡ r → (u : PlainTrader) → (r >>= λ s. Ok (new_trader t.name s bounds)) ≡ Ok u → IsSmallRing u
 unfolding after_all
 one-sparse home t ring (Err f) is u e = absurd (never-ok f u e)
 one-sparse home t ring (Ok s) is u e =
     let kept =
     entries-kept home t.entries 0 2 (new_store home t.name t.interfaces) s ring (new-sparse home t.name t.interfaces) is
     in
-    subst IsSmallRing (ok-same (opened t.name s bounds) u e)
+    subst IsSmallRing (ok-same (new_trader t.name s bounds) u e)
     (record { offers = kept.offers; links = kept.links; hops = kept.hops }, kept.small)
 
-all-sparse : (home : Address) (ts : List TraderScript) (us : List PlainTrader) → AllByRecursion IsRing (map asked ts)
+all-sparse : (home : Address) (ts : List TraderScript) (us : List PlainTrader) → AllByRecursion IsRing (map plain_script ts)
     → all_traders home ts ≡ Ok us → AllByRecursion IsSmallRing us
 all-sparse home [] us ring e = subst (AllByRecursion IsSmallRing) (ok-same [] us e) tt
 all-sparse home (t ∷ ts) us ring e =
@@ -254,7 +255,7 @@ at-sparse home seed (Ok us) (Some f) all o e = absurd (never-ok f o e)
 at-sparse home seed (Ok us) None all o e =
     subst (λ (z : Opening). AllByRecursion IsSmallRing z.traders) (ok-same (opening home seed us) o e) (all us refl)
 
-with-sparse : (s : Script) (h : Option Home) (o : Opening) → AllByRecursion IsRing (map asked s.traders)
+with-sparse : (s : Script) (h : Option Home) (o : Opening) → AllByRecursion IsRing (map plain_script s.traders)
     → opening_with s h ≡ Ok o → AllByRecursion IsSmallRing o.traders
 with-sparse s None o ring e = absurd (never-ok _ o e)
 with-sparse s (Some home) o ring e =
@@ -263,10 +264,10 @@ with-sparse s (Some home) o ring e =
     (λ us is. all-sparse (home_address home) s.traders us ring is) o e
 
 generated-rings : GeneratedAreRead → (count : ℕ) (o : Opening) → 1 ≤ count → count ≤ 64
-    → opening_of (generated count) ≡ Ok o → AllByRecursion IsSmallRing o.traders
+    → opening_of (generated_file count) ≡ Ok o → AllByRecursion IsSmallRing o.traders
 unfolding opening_of
 generated-rings read count o least most e =
-    let s : Script = script_of (generated count) in
+    let s : Script = script_of (generated_file count) in
     with-sparse s s.home o
     (subst (AllByRecursion IsRing) (sym (read count least most).traders) (rings count count most)) e
 
@@ -276,9 +277,9 @@ both-each [] h = (tt, tt)
 both-each (u ∷ us) h = let later = both-each us h.1 in ((h.0.0, later.0), (h.0.1, later.1))
 
 pub generated-sparse : GeneratedAreRead → (count : ℕ) (o : Opening) → 1 ≤ count → count ≤ 64
-    → opening_of (generated count) ≡ Ok o → AllByRecursion SparseTrader o.traders
+    → opening_of (generated_file count) ≡ Ok o → AllByRecursion SparseTrader o.traders
 generated-sparse read count o least most e = (both-each o.traders (generated-rings read count o least most e)).0
 
 pub generated-small : GeneratedAreRead → (count : ℕ) (o : Opening) → 1 ≤ count → count ≤ 64
-    → opening_of (generated count) ≡ Ok o → AllByRecursion HasSmallReferences o.traders
+    → opening_of (generated_file count) ≡ Ok o → AllByRecursion HasSmallReferences o.traders
 generated-small read count o least most e = (both-each o.traders (generated-rings read count o least most e)).1

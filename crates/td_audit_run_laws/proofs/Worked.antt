@@ -1,7 +1,7 @@
 -- The worked examples hold.
 use Rattle.std.proofs.Common.{◌≡◌, ℕ, List, [], refl}
 use Rattle.std.specs.Fmt.{digits}
-use Rattle.td_audit.specs.Auditing.{Audited, Audits, State, over}
+use Rattle.td_audit.specs.Auditing.{HasVerdict, Audits, AuditState, over}
 use Rattle.td_audit.specs.declared.verdict.Cause.{Cause}
 use Rattle.td_audit.specs.declared.verdict.Verdict.{Verdict}
 use Rattle.td_audit.specs.declared.verdict.Verdict.TheVariants.{Yes, No, Line}
@@ -35,7 +35,7 @@ unfolding lines_of
 empty-passes o = over
 
 -- where no line is left, each passed
-only-yes : {home : Address} {names : List (List ℕ)} {s : State} {n : ℕ} {v : Verdict} → Audited home names s n [] v
+only-yes : {home : Address} {names : List (List ℕ)} {s : AuditState} {n : ℕ} {v : Verdict} → HasVerdict home names s n [] v
     → v ≡ Yes n
 only-yes over = refl
 

@@ -1,4 +1,4 @@
-//! Commands on logs over texts and sinks in memory, with every status but the one for want of memory.
+//! Commands on logs over texts and sinks in memory, with every status but the one when out of memory.
 
 ghost use Rattle.std.specs.Prelude.{◌≤◌};
 
@@ -252,7 +252,7 @@ fn made_log(alloc: Global, count: &str) -> Result<Octets, Memory> {
 }
 
 /// Whether what `log N` prints has this verdict over the file that `make N` prints.
-fn is_audited(alloc: Global, count: u32, word: &str, told: &str) -> Result<bool, Memory>
+fn is_audited(alloc: Global, count: u32, word: &str, content: &str) -> Result<bool, Memory>
     requires least { 1 ≤ count }
     requires most { count ≤ 64 }
 {
@@ -264,7 +264,7 @@ fn is_audited(alloc: Global, count: u32, word: &str, told: &str) -> Result<bool,
         alloc,
         &mut files,
         &of(&["audit", "file", "log"]),
-        &ending(0, told, ""),
+        &ending(0, content, ""),
     )
 }
 

@@ -28,8 +28,8 @@ fn cause_word(cause: Cause) -> &'static str {
 }
 
 /// Whether a verdict is told so: `yes N`, `no N CAUSE` or `line N`.
-pub(crate) fn is_told(verdict: Verdict, told: &str) -> bool {
-    let (word, rest) = told.split_once(' ').unwrap_or((told, ""));
+pub(crate) fn is_content(verdict: Verdict, content: &str) -> bool {
+    let (word, rest) = content.split_once(' ').unwrap_or((content, ""));
     let (number, cause) = rest.split_once(' ').unwrap_or((rest, ""));
     let number = number.parse::<u32>().unwrap_or(0);
     match verdict {
@@ -63,10 +63,10 @@ pub(crate) fn audit_file(alloc: Global, file: &[u8], log: &[u8]) -> Verdict {
 
 /// Whether the log of a row has its verdict: `VERDICT <= LINE/LINE`.
 fn is_row(alloc: Global, file: &[u8], row: &str) -> Result<bool, Memory> {
-    let (told, lines) = row.split_once(" <= ").unwrap_or((row, ""));
+    let (content, lines) = row.split_once(" <= ").unwrap_or((row, ""));
     let log = log_of(alloc, lines)?;
     let verdict = audit_file(alloc, file, log.as_slice());
-    Ok(is_told(verdict, told))
+    Ok(is_content(verdict, content))
 }
 
 /// Checks the rows of a text, a line each, over the traders of a file.

@@ -3,7 +3,7 @@
 ghost use Rattle.std.specs.Prelude.{◌≤◌};
 ghost use Rattle.td_objects.specs.References.{IsAddress};
 
-use crate::checking::{audit_file, is_told};
+use crate::checking::{audit_file, is_content};
 use std::alloc::Global;
 use std::process::Abort;
 use std::test::Fail;
@@ -42,12 +42,12 @@ fn audit_ring(alloc: Global, count: u32) -> Result<Verdict, Memory>
     Ok(audit_file(alloc, file.as_slice(), log.as_slice()))
 }
 
-fn is_audited(alloc: Global, count: u32, told: &str) -> bool
+fn is_audited(alloc: Global, count: u32, content: &str) -> bool
     requires least { 1 ≤ count }
     requires most { count ≤ 64 }
 {
     match audit_ring(alloc, count) {
-        Ok(verdict) => is_told(verdict, told),
+        Ok(verdict) => is_content(verdict, content),
         Err(_) => false,
     }
 }

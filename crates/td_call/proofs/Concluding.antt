@@ -2,19 +2,19 @@
 use Rattle.std.proofs.Common.{◌≡◌, ◌∙◌, inl, inr, ℕ, ◌≤◌, List, [], ◌++◌, drop, Option, Some, None}
 use Rattle.std.proofs.Common.{option_map, Result, Ok, Err, sym, ap, subst, append-nil}
 use Rattle.std.proofs.lemmas.List.{drop-append-le}
-use Rattle.td_codes.specs.declared.reference.Ior.{Ior}
-use Rattle.td_giop.specs.Stream.{Stream, dropped, first_at}
+use Rattle.td_typecode.specs.declared.reference.Ior.{Ior}
+use Rattle.td_giop.specs.Stream.{Stream, without_first, first_at}
 use Rattle.td_giop.proofs.Framing.{whole}
 use Rattle.td_ior.specs.declared.profile.Iiop.{Iiop}
 use Rattle.td_ior.specs.Profiles.{iiop_of}
 use Rattle.td_out.proofs.Steps.{Rose-later}
 use Rattle.td_walk.specs.declared.fault.PeerFault.{PeerFault}
 use Rattle.td_walk.specs.declared.fault.PeerFault.TheVariants as fault
-use Rattle.td_wire.specs.Connections.{Traffic, ended, left_of, opened, wrote}
+use Rattle.td_wire.specs.Connections.{Traffic, end_connection, left_of, open_connection, wrote}
 use Rattle.td_wire.proofs.Steps.{left_with, left_wrote}
-use Rattle.td_call.specs.Replies.{Reading, replied, reply_limit}
-use Rattle.td_call.specs.Fetching.{Brought, Exchanges, Fetches, IsRead, IsWhole, ReadsFront}
-use Rattle.td_call.specs.Calling.{Called, CalledAt, Connected, first_id}
+use Rattle.td_call.specs.Replies.{Reading, reply_value, reply_limit}
+use Rattle.td_call.specs.Fetching.{FetchesBytes, Exchanges, Fetches, IsReadOrFault, IsWhole, ReadsFront}
+use Rattle.td_call.specs.Calling.{CallsObject, CalledAt, ConnectsTo, first_id}
 use Rattle.td_call.proofs.Holding.{all_given}
 use Rattle.td_call.proofs.Judging.{bad_front, short_front}
 
@@ -25,7 +25,7 @@ pub fetches_later : (old new : Stream) (before after : Option Traffic) (f0 f1 f2
     → f0 ≤ f1 → Fetches old new before after f1 f2 r → Fetches old new before after f0 f2 r
 fetches_later old new before after f0 f1 f2 (Ok u) later f = f
 fetches_later old new before after f0 f1 f2 (Err fault.Wire) later f =
-    elim f [ inl rose ↦ inl (Rose-later f0 f1 f2 later rose) | inr ended ↦ inr ended ]
+    elim f [ inl rose ↦ inl (Rose-later f0 f1 f2 later rose) | inr end_connection ↦ inr end_connection ]
 fetches_later old new before after f0 f1 f2 (Err fault.Grammar) later f = f
 fetches_later old new before after f0 f1 f2 (Err fault.Exception) later f = f
 fetches_later old new before after f0 f1 f2 (Err fault.Memory) later f = f
@@ -42,23 +42,23 @@ fetched_behind old new before mid after request f0 f1 f2 r written later f =
 
 -- what is held and left of the connection, once the request was written
 all_ahead : (old mid : Stream) (request : List ℕ) (t : Traffic) (after : Option Traffic)
-    (b : Brought old mid (Some (wrote request t)) after) → old.rest ++ left_of t ≡ mid.rest ++ b.gives.0
+    (b : FetchesBytes old mid (Some (wrote request t)) after) → old.rest ++ left_of t ≡ mid.rest ++ b.gives.0
 all_ahead old mid request t after b =
     ap (λ (x : List ℕ). old.rest ++ x) (sym (left_wrote request t)) ∙ all_given old mid (wrote request t) after b
 
 -- what is left of a stream without its first message
 rest_dropped : (mid new : Stream) (size : ℕ) → mid.limit ≡ reply_limit
-    → first_at reply_limit mid.rest ≡ Ok (Some size) → new ≡ dropped mid (first_at mid.limit mid.rest)
+    → first_at reply_limit mid.rest ≡ Ok (Some size) → new ≡ without_first mid (first_at mid.limit mid.rest)
     → new.rest ≡ drop size mid.rest
 rest_dropped mid new size limited first is =
     let here : first_at mid.limit mid.rest ≡ Ok (Some size) =
     subst (λ (n : ℕ). first_at n mid.rest ≡ Ok (Some size)) (sym limited) first in
-    ap (λ (s : Stream). s.rest) (is ∙ ap (dropped mid) here)
+    ap (λ (s : Stream). s.rest) (is ∙ ap (without_first mid) here)
 
 pub exchanged : {A : Type 0} (reads : Reading A) (id : ℕ) (request : List ℕ) (old mid new : Stream)
     (before after : Option Traffic) (f0 f1 : ℕ) (result : Result A PeerFault)
-    → Brought old mid (option_map (wrote request) before) after → IsWhole mid.rest → mid.limit ≡ reply_limit
-    → ReadsFront reads id mid.rest result → new ≡ dropped mid (first_at mid.limit mid.rest)
+    → FetchesBytes old mid (option_map (wrote request) before) after → IsWhole mid.rest → mid.limit ≡ reply_limit
+    → ReadsFront reads id mid.rest result → new ≡ without_first mid (first_at mid.limit mid.rest)
     → Exchanges reads id request old.rest new.rest before after f0 f1 result
 exchanged reads id request old mid new None after f0 f1 (Ok a) b held limited front is = tt
 exchanged reads id request old mid new (Some t) after f0 f1 (Ok a) b held limited front is =
@@ -67,7 +67,7 @@ exchanged reads id request old mid new (Some t) after f0 f1 (Ok a) b held limite
     record {
       size = front.0;
       rest = b.gives.0;
-      is = ap (replied reads id) all ∙ front.2 b.gives.0;
+      is = ap (reply_value reads id) all ∙ front.2 b.gives.0;
       behind =
           ap (λ (x : List ℕ). x ++ b.gives.0) (rest_dropped mid new front.0 limited front.1 is)
           ∙ sym (drop-append-le front.0 mid.rest b.gives.0 within) ∙ ap (drop front.0) (sym all);
@@ -78,7 +78,7 @@ exchanged reads id request old mid new before after f0 f1 (Err fault.Wire) b hel
     absurd (cc (held.1, front))
 exchanged reads id request old mid new None after f0 f1 (Err fault.Grammar) b held limited front is = tt
 exchanged reads id request old mid new (Some t) after f0 f1 (Err fault.Grammar) b held limited front is =
-    ap (replied reads id) (all_ahead old mid request t after b) ∙ front b.gives.0
+    ap (reply_value reads id) (all_ahead old mid request t after b) ∙ front b.gives.0
 exchanged reads id request old mid new before after f0 f1 (Err fault.Exception) b held limited front is = absurd front
 exchanged reads id request old mid new before after f0 f1 (Err fault.Memory) b held limited front is = tt
 
@@ -88,18 +88,18 @@ pub unfetched : {A : Type 0} (reads : Reading A) (id : ℕ) (request held_after 
     → Fetches old mid (option_map (wrote request) before) after f0 f1 (Err e)
     → Exchanges {A = A} reads id request old.rest held_after before after f0 f1 (Err e)
 unfetched reads id request held_after old mid None after f0 f1 fault.Wire f =
-    elim f [ inl rose ↦ inl rose | inr ended ↦ inr tt ]
+    elim f [ inl rose ↦ inl rose | inr end_connection ↦ inr tt ]
 unfetched reads id request held_after old mid (Some t) after f0 f1 fault.Wire f =
     elim f [
       | inl rose ↦ inl rose
-      | inr ended ↦ inr (short_front reads id (old.rest ++ left_of t)
-          (ap (λ (x : List ℕ). first_at reply_limit (old.rest ++ x)) (sym (left_wrote request t)) ∙ ended))
+      | inr end_connection ↦ inr (short_front reads id (old.rest ++ left_of t)
+          (ap (λ (x : List ℕ). first_at reply_limit (old.rest ++ x)) (sym (left_wrote request t)) ∙ end_connection))
     ]
 unfetched reads id request held_after old mid None after f0 f1 fault.Grammar f = tt
 unfetched reads id request held_after old mid (Some t) after f0 f1 fault.Grammar f =
     let bad : first_at reply_limit (old.rest ++ left_of t) ≡ Err f.0 =
     ap (λ (x : List ℕ). first_at reply_limit (old.rest ++ x)) (sym (left_wrote request t)) ∙ f.1 in
-    ap (replied reads id) (sym (append-nil (old.rest ++ left_of t)))
+    ap (reply_value reads id) (sym (append-nil (old.rest ++ left_of t)))
     ∙ bad_front reads id (old.rest ++ left_of t) [] f.0 bad
 unfetched reads id request held_after old mid before after f0 f1 fault.Exception f = absurd f
 unfetched reads id request held_after old mid before after f0 f1 fault.Memory f = tt
@@ -108,15 +108,15 @@ unfetched reads id request held_after old mid before after f0 f1 fault.Memory f 
 
 called_fresh : {A : Type 0} (reads : Reading A) (request : List ℕ) (p : Iiop)
     (before last after : Option Traffic) (held_after : List ℕ) (f0 f1 f2 : ℕ) (r : Result A PeerFault) → f0 ≤ f1
-    → Exchanges reads first_id request [] held_after (option_map (opened p.host p.port) before) last f1 f2 r
-    → after ≡ option_map ended last → CalledAt reads request p before after f0 f2 r
+    → Exchanges reads first_id request [] held_after (option_map (open_connection p.host p.port) before) last f1 f2 r
+    → after ≡ option_map end_connection last → CalledAt reads request p before after f0 f2 r
 called_fresh reads request p None last after held_after f0 f1 f2 (Ok a) later x over = tt
 called_fresh reads request p (Some t) last after held_after f0 f1 f2 (Ok a) later x over =
-    record { size = x.size; rest = x.rest; is = x.is; wire = over ∙ ap (option_map ended) x.wire }
+    record { size = x.size; rest = x.rest; is = x.is; wire = over ∙ ap (option_map end_connection) x.wire }
 called_fresh reads request p None last after held_after f0 f1 f2 (Err fault.Wire) later x over =
-    elim x [ inl rose ↦ inl (Rose-later f0 f1 f2 later rose) | inr ended ↦ inr tt ]
+    elim x [ inl rose ↦ inl (Rose-later f0 f1 f2 later rose) | inr end_connection ↦ inr tt ]
 called_fresh reads request p (Some t) last after held_after f0 f1 f2 (Err fault.Wire) later x over =
-    elim x [ inl rose ↦ inl (Rose-later f0 f1 f2 later rose) | inr ended ↦ inr ended ]
+    elim x [ inl rose ↦ inl (Rose-later f0 f1 f2 later rose) | inr end_connection ↦ inr end_connection ]
 called_fresh reads request p None last after held_after f0 f1 f2 (Err fault.Grammar) later x over = tt
 called_fresh reads request p (Some t) last after held_after f0 f1 f2 (Err fault.Grammar) later x over = x
 called_fresh reads request p before last after held_after f0 f1 f2 (Err fault.Exception) later x over = absurd x
@@ -125,8 +125,8 @@ called_fresh reads request p before last after held_after f0 f1 f2 (Err fault.Me
 -- a connection was made, and then a request sent over it
 pub called_then : {A : Type 0} (reads : Reading A) (request : List ℕ) (p : Iiop) (s : Stream)
     (before mid last after : Option Traffic) (held_after : List ℕ) (f0 f1 f2 : ℕ) (r : Result A PeerFault)
-    → Connected p before mid f0 f1 (Ok s) → f0 ≤ f1
-    → Exchanges reads first_id request s.rest held_after mid last f1 f2 r → after ≡ option_map ended last
+    → ConnectsTo p before mid f0 f1 (Ok s) → f0 ≤ f1
+    → Exchanges reads first_id request s.rest held_after mid last f1 f2 r → after ≡ option_map end_connection last
     → CalledAt reads request p before after f0 f2 r
 called_then reads request p s before mid last after held_after f0 f1 f2 r made later x over =
     let none : s.rest ≡ [] = ap (λ (u : Stream). u.rest) made.0 in
@@ -136,7 +136,7 @@ called_then reads request p s before mid last after held_after f0 f1 f2 r made l
     (subst (λ (u : Option Traffic). Exchanges reads first_id request [] held_after u last f1 f2 r) made.1 y) over
 
 pub unconnected : {A : Type 0} (reads : Reading A) (request : List ℕ) (p : Iiop)
-    (before after : Option Traffic) (f0 f1 : ℕ) (e : PeerFault) → Connected p before after f0 f1 (Err e)
+    (before after : Option Traffic) (f0 f1 : ℕ) (e : PeerFault) → ConnectsTo p before after f0 f1 (Err e)
     → CalledAt {A = A} reads request p before after f0 f1 (Err e)
 unconnected reads request p before after f0 f1 fault.Wire failed = inl failed.0
 unconnected reads request p before after f0 f1 fault.Grammar no_way = absurd no_way
@@ -145,7 +145,7 @@ unconnected reads request p before after f0 f1 fault.Memory wanted = tt
 
 pub called_of : {A : Type 0} (reads : Reading A) (request : Iiop → List ℕ) (target : Ior) (p : Iiop)
     (before after : Option Traffic) (f0 f1 : ℕ) (r : Result A PeerFault) → iiop_of target ≡ Some p
-    → CalledAt reads (request p) p before after f0 f1 r → Called reads request target before after f0 f1 r
+    → CalledAt reads (request p) p before after f0 f1 r → CallsObject reads request target before after f0 f1 r
 called_of reads request target p before after f0 f1 (Ok a) found x = (p, found, x)
 called_of reads request target p before after f0 f1 (Err fault.Wire) found x = x
 called_of reads request target p before after f0 f1 (Err fault.Grammar) found x = inr x
@@ -153,8 +153,8 @@ called_of reads request target p before after f0 f1 (Err fault.Exception) found 
 called_of reads request target p before after f0 f1 (Err fault.Memory) found x = tt
 
 pub uncalled : {A : Type 0} (reads : Reading A) (request : Iiop → List ℕ) (target : Ior)
-    (before after : Option Traffic) (f0 f1 : ℕ) (e : PeerFault) → IsRead (iiop_of target) (Err e)
-    → Called {A = A} reads request target before after f0 f1 (Err e)
+    (before after : Option Traffic) (f0 f1 : ℕ) (e : PeerFault) → IsReadOrFault (iiop_of target) (Err e)
+    → CallsObject {A = A} reads request target before after f0 f1 (Err e)
 uncalled reads request target before after f0 f1 fault.Wire no_way = absurd no_way
 uncalled reads request target before after f0 f1 fault.Grammar none = inl none
 uncalled reads request target before after f0 f1 fault.Exception no_way = absurd no_way

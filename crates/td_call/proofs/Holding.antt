@@ -3,17 +3,17 @@ use Rattle.std.proofs.Common.{◌≡◌, ◌∙◌, ℕ, ◌+◌, ◌-◌, ◌<�
 use Rattle.std.proofs.Common.{ltb-true, List, ◌++◌, length, Option, Some, None, Result, Ok, Err, refl}
 use Rattle.std.proofs.Common.{sym, ap, subst, arith, append_assoc, length-append, take, MatchBool}
 use Rattle.std.proofs.lemmas.List.{length-take-le}
-use Rattle.td_giop.specs.Header.{Judged, header_at}
+use Rattle.td_giop.specs.Header.{JudgesHeader, header_at}
 use Rattle.td_giop.specs.Stream.{Stream, first_at, whole_within}
 use Rattle.td_giop.specs.declared.fault.FrameFault.{FrameFault}
 use Rattle.td_giop.specs.declared.header.Header.{Header}
 use Rattle.td_giop.proofs.Framing.{bad-append}
 use Rattle.td_giop.proofs.Judged.{judged}
 use Rattle.td_walk.specs.declared.fault.PeerFault.TheVariants as fault
-use Rattle.td_wire.specs.Connections.{Traffic, Gives, left_of}
+use Rattle.td_wire.specs.Connections.{Traffic, GivesFront, left_of}
 use Rattle.td_wire.proofs.Steps.{gives_more}
 use Rattle.td_call.specs.Replies.{reply_limit}
-use Rattle.td_call.specs.Fetching.{Brought, Tries, Fetches, IsWhole, piece_size}
+use Rattle.td_call.specs.Fetching.{FetchesBytes, Tries, Fetches, IsWhole, piece_size}
 
 abbrev with_rest : Stream → List ℕ → Stream
 with_rest s rest = record s { rest = rest }
@@ -24,7 +24,7 @@ most_held = 67117068
 
 -- what came so far
 pub record Held (old now : Stream) (before after : Option Traffic) (f0 f1 : ℕ) : Type 0 where
-  pub brought : Brought old now before after
+  pub brought : FetchesBytes old now before after
   pub later : f0 ≤ f1
   pub room : length now.rest ≤ length old.rest + most_held
 
@@ -41,7 +41,7 @@ pub unfinished : (held : List ℕ) → first_at reply_limit held ≡ Ok None →
 unfolding first_at
 unfinished held e = by_result (header_at reply_limit held) (judged reply_limit held) e
   where
-    by_result : (r : Result (Option Header) FrameFault) → Judged reply_limit held r
+    by_result : (r : Result (Option Header) FrameFault) → JudgesHeader reply_limit held r
         → whole_within (length held) r ≡ Ok None → length held < 12 + reply_limit
     by_result (Err f) j e = absurd cc
     by_result (Ok None) j e = omega (arith, j)
@@ -56,8 +56,8 @@ rest_of : (old now : Stream) (piece : List ℕ) → now ≡ record old { rest = 
     → now.rest ≡ old.rest ++ piece
 rest_of old now piece e = ap (λ (s : Stream). s.rest) e
 
-brought_more : (old now new : Stream) (before mid after : Option Traffic) → Brought old now before mid
-    → Brought now new mid after → Brought old new before after
+brought_more : (old now new : Stream) (before mid after : Option Traffic) → FetchesBytes old now before mid
+    → FetchesBytes now new mid after → FetchesBytes old new before after
 brought_more old now new before mid after a b = record {
   piece = a.piece ++ b.piece;
   held =
@@ -93,7 +93,7 @@ held_closer old now new before mid after f0 f1 f2 held not_whole tried =
 
 -- what one read gave
 pub brought_piece : (old new : Stream) (before after : Option Traffic) (f0 f1 : ℕ) (filled : List ℕ) (n : ℕ)
-    → Gives (take n filled) before after → n ≤ length filled → length filled ≤ piece_size → 0 < n
+    → GivesFront (take n filled) before after → n ≤ length filled → length filled ≤ piece_size → 0 < n
     → new ≡ record old { rest = old.rest ++ take n filled } → Tries old new before after f0 f1 (Ok true)
 brought_piece old new before after f0 f1 filled n gives bound room some is =
     let size : length (take n filled) ≡ n = length-take-le n filled bound in (
@@ -117,7 +117,7 @@ none_whole s true is found = absurd cc
 -- ---- how it ends
 
 -- what is held and what is left are what was held and left first
-pub all_given : (old now : Stream) (t : Traffic) (mid : Option Traffic) (b : Brought old now (Some t) mid)
+pub all_given : (old now : Stream) (t : Traffic) (mid : Option Traffic) (b : FetchesBytes old now (Some t) mid)
     → old.rest ++ left_of t ≡ now.rest ++ b.gives.0
 all_given old now t mid b =
     ap (λ (x : List ℕ). old.rest ++ x) b.gives.1 ∙ sym (append_assoc old.rest b.piece b.gives.0)

@@ -2,21 +2,23 @@
 use Rattle.std.proofs.Common.{◌≡◌, ◌∙◌, inl, inr, ℕ, List, [], ◌++◌, take, drop, Option, Some, None, option_map}
 use Rattle.std.proofs.Common.{Ok, Err, refl, sym, ap, subst, append_assoc}
 use Rattle.std.proofs.lemmas.List.{take-append-drop}
-use Rattle.td_codes.specs.declared.reference.Ior.{Ior}
+use Rattle.td_typecode.specs.declared.reference.Ior.{Ior}
 use Rattle.td_giop.specs.Stream.{Stream}
 use Rattle.td_ior.specs.declared.profile.Iiop.{Iiop}
 use Rattle.td_walk.specs.declared.fault.PeerFault.{PeerFault}
 use Rattle.td_walk.specs.declared.fault.PeerFault.TheVariants as fault
-use Rattle.td_wire.specs.Connections.{Connection, Traffic, Gives, ended, opened, written_on, wrote}
+use Rattle.td_wire.specs.Connections.{Connection, Traffic, GivesFront, end_connection, open_connection, written_on}
+use Rattle.td_wire.specs.Connections.{wrote}
 use Rattle.td_wire.proofs.Steps.{gives_more, gives_none, nothing_written}
-use Rattle.td_call.specs.Calling.{Connected}
-use Rattle.td_call.specs.Moving.{Draws, Leaves, LeavesAt, Moves, Sends, sent, heard, over, unopened, untouched}
-use Rattle.td_call.specs.Moving.{IsDisconnected, StaysDisconnected, Unopened}
+use Rattle.td_call.specs.Calling.{ConnectsTo}
+use Rattle.td_call.specs.Moving.{ReadsUnasked, LeavesTraffic, LeavesAt, MovesTraffic, SendsFront, sent, heard, over}
+use Rattle.td_call.specs.Moving.{unopened, untouched}
+use Rattle.td_call.specs.Moving.{IsDisconnected, StaysDisconnected, ConnectsNone}
 use Rattle.td_call.proofs.Holding.{Held}
 
 -- ---- bytes that are written
 
-pub sends_none : (request : List ℕ) (t : Option Traffic) → (s : Sends request t t) × (s.unwritten ≡ request)
+pub sends_none : (request : List ℕ) (t : Option Traffic) → (s : SendsFront request t t) × (s.unwritten ≡ request)
 sends_none request t =
     (record { written = []; unwritten = request; front = refl; wire = sym (nothing_written t) }, refl)
 
@@ -35,9 +37,9 @@ wrote_both a b (Some t) = go t.current
 
 -- the first bytes of what was unwritten
 pub sends_more : (request rest left : List ℕ) (n : ℕ) (before mid after : Option Traffic)
-    → (s : Sends request before mid) × (s.unwritten ≡ rest) → left ≡ drop n rest
+    → (s : SendsFront request before mid) × (s.unwritten ≡ rest) → left ≡ drop n rest
     → after ≡ option_map (wrote (take n rest)) mid
-    → (s : Sends request before after) × (s.unwritten ≡ left)
+    → (s : SendsFront request before after) × (s.unwritten ≡ left)
 sends_more request rest left n before mid after s is written =
     let parts : take n rest ++ left ≡ s.0.unwritten =
     ap (λ (x : List ℕ). take n rest ++ x) is ∙ take-append-drop n rest ∙ sym s.1 in (
@@ -55,29 +57,29 @@ sends_more request rest left n before mid after s is written =
     )
 
 -- a write failed
-pub sends_kept : (request : List ℕ) (before mid after : Option Traffic) → Sends request before mid → after ≡ mid
-    → Sends request before after
+pub sends_kept : (request : List ℕ) (before mid after : Option Traffic) → SendsFront request before mid → after ≡ mid
+    → SendsFront request before after
 sends_kept request before mid after s is =
     record { written = s.written; unwritten = s.unwritten; front = s.front; wire = is ∙ s.wire }
 
 -- ---- bytes that are given
 
-pub draws_none : (t : Option Traffic) → Draws t t
+pub draws_none : (t : Option Traffic) → ReadsUnasked t t
 draws_none t = record { piece = []; gives = gives_none t }
 
-pub draws_kept : (before after : Option Traffic) → after ≡ before → Draws before after
-draws_kept before after is = subst (λ (x : Option Traffic). Draws before x) (sym is) (draws_none before)
+pub draws_kept : (before after : Option Traffic) → after ≡ before → ReadsUnasked before after
+draws_kept before after is = subst (λ (x : Option Traffic). ReadsUnasked before x) (sym is) (draws_none before)
 
-pub draws_piece : (piece : List ℕ) (before after : Option Traffic) → Gives piece before after → Draws before after
+pub draws_piece : (piece : List ℕ) (before after : Option Traffic) → GivesFront piece before after → ReadsUnasked before after
 draws_piece piece before after g = record { piece = piece; gives = g }
 
 -- what came so far
 pub draws_held : (old now : Stream) (before after : Option Traffic) (f0 f1 : ℕ) → Held old now before after f0 f1
-    → Draws before after
+    → ReadsUnasked before after
 draws_held old now before after f0 f1 held = draws_piece held.brought.piece before after held.brought.gives
 
 pub draws_last : (old now : Stream) (before mid after : Option Traffic) (f0 f1 : ℕ) → Held old now before mid f0 f1
-    → Draws mid after → Draws before after
+    → ReadsUnasked mid after → ReadsUnasked before after
 draws_last old now before mid after f0 f1 held d =
     record {
       piece = held.brought.piece ++ d.piece;
@@ -86,67 +88,67 @@ draws_last old now before mid after f0 f1 held d =
 
 -- ---- a request, and what is fetched behind it
 
-pub moves_none : (request : List ℕ) (t : Option Traffic) → Moves request t t
+pub moves_none : (request : List ℕ) (t : Option Traffic) → MovesTraffic request t t
 moves_none request t = sent (sends_none request t).0
 
-pub moves_sent : (request : List ℕ) (before after : Option Traffic) → Sends request before after
-    → Moves request before after
+pub moves_sent : (request : List ℕ) (before after : Option Traffic) → SendsFront request before after
+    → MovesTraffic request before after
 moves_sent request before after s = sent s
 
 pub moves_heard : (request : List ℕ) (before mid after : Option Traffic) → mid ≡ option_map (wrote request) before
-    → Draws mid after → Moves request before after
+    → ReadsUnasked mid after → MovesTraffic request before after
 moves_heard request before mid after written d =
-    heard (subst (λ (x : Option Traffic). Draws x after) written d)
+    heard (subst (λ (x : Option Traffic). ReadsUnasked x after) written d)
 
 -- ---- a call
 
 pub leaves_unconnected : (request : List ℕ) (p : Iiop) (before after : Option Traffic) (f0 f1 : ℕ) (e : PeerFault)
-    → Connected p before after f0 f1 (Err e) → LeavesAt request p before after
+    → ConnectsTo p before after f0 f1 (Err e) → LeavesAt request p before after
 leaves_unconnected request p before after f0 f1 fault.Wire made = unopened made.1
 leaves_unconnected request p before after f0 f1 fault.Grammar no_way = absurd no_way
 leaves_unconnected request p before after f0 f1 fault.Exception no_way = absurd no_way
 leaves_unconnected request p before after f0 f1 fault.Memory made =
-    over (option_map (opened p.host p.port) before) (moves_none request (option_map (opened p.host p.port) before)) made
+    over (option_map (open_connection p.host p.port) before) (moves_none request (option_map (open_connection p.host p.port) before)) made
 
 pub leaves_uncalled : (request : List ℕ) (p : Iiop) (t : Option Traffic) → LeavesAt request p t t
 leaves_uncalled request p t = unopened (inl refl)
 
 pub leaves_over : (request : List ℕ) (p : Iiop) (s : Stream) (before mid last after : Option Traffic) (f0 f1 : ℕ)
-    → Connected p before mid f0 f1 (Ok s) → Moves request mid last → after ≡ option_map ended last
+    → ConnectsTo p before mid f0 f1 (Ok s) → MovesTraffic request mid last → after ≡ option_map end_connection last
     → LeavesAt request p before after
 leaves_over request p s before mid last after f0 f1 made m over_now =
-    over last (subst (λ (x : Option Traffic). Moves request x last) made.1 m) over_now
+    over last (subst (λ (x : Option Traffic). MovesTraffic request x last) made.1 m) over_now
 
 -- an object that isn't called
-pub left_untouched : (request : Iiop → List ℕ) (target : Ior) (t : Option Traffic) → Leaves request target t t
+pub left_untouched : (request : Iiop → List ℕ) (target : Ior) (t : Option Traffic) → LeavesTraffic request target t t
 left_untouched request target t = untouched refl
 
 -- ---- whether a connection stands
 
-ended_disconnects : (last : Option Traffic) → IsDisconnected (option_map ended last)
+ended_disconnects : (last : Option Traffic) → IsDisconnected (option_map end_connection last)
 ended_disconnects None = tt
 ended_disconnects (Some t) = refl
 
-pub disconnected_ended : (before last after : Option Traffic) → after ≡ option_map ended last
+pub disconnected_ended : (before last after : Option Traffic) → after ≡ option_map end_connection last
     → StaysDisconnected before after
 disconnected_ended before last after is = λ none. subst IsDisconnected (sym is) (ended_disconnects last)
 
 disconnected_same : (before after : Option Traffic) → after ≡ before → StaysDisconnected before after
 disconnected_same before after is = λ none. subst IsDisconnected (sym is) none
 
-disconnected_unopened : (before after : Option Traffic) → Unopened before after → StaysDisconnected before after
+disconnected_unopened : (before after : Option Traffic) → ConnectsNone before after → StaysDisconnected before after
 disconnected_unopened before after u = elim u [
   | inl is ↦ disconnected_same before after is
   | inr is ↦ disconnected_ended before before after is
 ]
 
 pub disconnected_unconnected : (p : Iiop) (before after : Option Traffic) (f0 f1 : ℕ) (e : PeerFault)
-    → Connected p before after f0 f1 (Err e) → StaysDisconnected before after
+    → ConnectsTo p before after f0 f1 (Err e) → StaysDisconnected before after
 disconnected_unconnected p before after f0 f1 fault.Wire made = disconnected_unopened before after made.1
 disconnected_unconnected p before after f0 f1 fault.Grammar no_way = absurd no_way
 disconnected_unconnected p before after f0 f1 fault.Exception no_way = absurd no_way
 disconnected_unconnected p before after f0 f1 fault.Memory made =
-    disconnected_ended before (option_map (opened p.host p.port) before) after made
+    disconnected_ended before (option_map (open_connection p.host p.port) before) after made
 
 -- a call leaves none
 pub disconnected_at : (request : List ℕ) (p : Iiop) (before after : Option Traffic) → LeavesAt request p before after

@@ -21,16 +21,16 @@ Reading A = ℕ → At → Option A
 abbrev pub reply_limit : ℕ
 reply_limit = CLIENT_LIMIT
 
-pub data Comes (A : Type 0) : Type 0 where
+pub data ReplyResult (A : Type 0) : Type 0 where
   -- a reply that tells this, of so many bytes
-  told : A → ℕ → Comes A
+  content : A → ℕ → ReplyResult A
   -- something else
-  strange : Comes A
+  strange : ReplyResult A
   -- the bytes end before a message is whole
-  short : Comes A
+  short : ReplyResult A
 
-abbrev pub comes_of : {A : Type 0} → Option A → (size : ℕ) → Comes A
-comes_of (Some a) size = told a size
+abbrev pub comes_of : {A : Type 0} → Option A → (size : ℕ) → ReplyResult A
+comes_of (Some a) size = content a size
 comes_of None size = strange
 
 abbrev pub reply_head : (id status : ℕ) → Reply
@@ -53,7 +53,7 @@ message_read reads id kind order message =
     option_and_then (λ (b : ℕ × At). reads b.0 b.1) (reply_body id kind order message)
 
 abbrev pub by_header : {A : Type 0} → Reading A → (id : ℕ) → (given : List ℕ)
-    → Result (Option Header) FrameFault → Comes A
+    → Result (Option Header) FrameFault → ReplyResult A
 by_header reads id given (Ok (Some h)) =
     if nat_lt (length given) (HEADER_SIZE + h.size) then short
     else comes_of (message_read reads id h.kind h.order (take (HEADER_SIZE + h.size) given))
@@ -62,5 +62,5 @@ by_header reads id given (Ok None) = short
 by_header reads id given (Err f) = strange
 
 -- what the bytes come to that a connection gives
-unfoldable pub replied : {A : Type 0} → Reading A → (id : ℕ) → (given : List ℕ) → Comes A
-replied reads id given = by_header reads id given (header_at reply_limit given)
+unfoldable pub reply_value : {A : Type 0} → Reading A → (id : ℕ) → (given : List ℕ) → ReplyResult A
+reply_value reads id given = by_header reads id given (header_at reply_limit given)

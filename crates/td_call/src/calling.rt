@@ -2,11 +2,11 @@
 
 ghost use Rattle.std.specs.Prelude.{◌≡◌, ◌≤◌, ◌↔◌, [], option_map, IfOk, IsTrue};
 ghost use Rattle.td_ior.specs.Profiles.{iiop_of};
-ghost use Rattle.td_call.specs.Calling.{Called, CalledAt, Connected, first_id};
-ghost use Rattle.td_call.specs.Fetching.{IsRead};
-ghost use Rattle.td_call.specs.Moving.{Leaves, LeavesAt, StaysDisconnected};
-ghost use Rattle.td_call.specs.Readings.{AdmitsTold, AdmitsValue, outcome_told, evaluation_told};
-ghost use Rattle.td_wire.specs.Connections.{ended};
+ghost use Rattle.td_call.specs.Calling.{CallsObject, CalledAt, ConnectsTo, first_id};
+ghost use Rattle.td_call.specs.Fetching.{IsReadOrFault};
+ghost use Rattle.td_call.specs.Moving.{LeavesTraffic, LeavesAt, StaysDisconnected};
+ghost use Rattle.td_call.specs.Readings.{AdmitsAnswered, AdmitsValue, outcome_in_reply, evaluation_in_reply};
+ghost use Rattle.td_wire.specs.Connections.{end_connection};
 ghost use Rattle.td_call.specs.Requests.{request_of, evaluation_of};
 
 use crate::exchange::{exchange_call, exchange_evaluation};
@@ -29,7 +29,7 @@ const FIRST_ID: u32 = 1;
 ///
 /// `Grammar` where the reference has no IIOP profile, and `Memory`.
 pub fn profile_of(alloc: Global, target: &Ior) -> Result<Iiop, PeerFault>
-    ensures { IsRead (iiop_of target.now) result }
+    ensures { IsReadOrFault (iiop_of target.now) result }
 {
     match iiop_of(alloc, target) {
         Ok(profile) => Ok(profile),
@@ -45,7 +45,7 @@ pub fn profile_of(alloc: Global, target: &Ior) -> Result<Iiop, PeerFault>
 /// `Wire` where the wire failed, and `Memory`.
 pub fn connect<L: Wire>(alloc: Global, wire: &mut L, profile: &Iiop) -> Result<Framer, PeerFault>
     ensures same { L.same wire.old wire.new }
-    ensures connected { Connected profile.now (L.told wire.old) (L.told wire.new)
+    ensures connected { ConnectsTo profile.now (L.content wire.old) (L.content wire.new)
         (L.faults wire.old) (L.faults wire.new) result }
     ensures later { L.faults wire.old ≤ L.faults wire.new }
 {
@@ -65,7 +65,7 @@ pub fn connect<L: Wire>(alloc: Global, wire: &mut L, profile: &Iiop) -> Result<F
 /// read, and nothing came behind it.
 pub fn finish<L: Wire>(wire: &mut L, framer: &mut Framer, answered: bool)
     ensures same { L.same wire.old wire.new }
-    ensures told { L.told wire.new ≡ option_map ended (L.told wire.old) }
+    ensures content { L.content wire.new ≡ option_map end_connection (L.content wire.old) }
     ensures faults { L.faults wire.new ≡ L.faults wire.old }
     ensures framer { framer.new ≡ framer.old }
 {
@@ -93,7 +93,7 @@ fn is_spent(framer: &mut Framer) -> bool
 ///
 /// - `Wire` where the wire's count of faults rose, or its bytes ended before a message was whole.
 /// - `Grammar` where the object has no IIOP profile, or the bytes are no reply to the request.
-/// - `Memory` for want of memory.
+/// - `Memory` when out of memory.
 pub fn call_over<L: Wire>(
     alloc: Global,
     wire: &mut L,
@@ -101,12 +101,14 @@ pub fn call_over<L: Wire>(
     call: &Call,
 ) -> Result<Answered, PeerFault>
     ensures same { L.same wire.old wire.new }
-    ensures called { Called (outcome_told call.now) (λ p. request_of first_id p call.now) target.now
-        (L.told wire.old) (L.told wire.new) (L.faults wire.old) (L.faults wire.new) result }
-    ensures admitted { IfOk result (λ a. AdmitsTold call.now a) }
-    ensures leaves { Leaves (λ p. request_of first_id p call.now) target.now (L.told wire.old)
-        (L.told wire.new) }
-    ensures disconnected { StaysDisconnected (L.told wire.old) (L.told wire.new) }
+    ensures called { CallsObject (outcome_in_reply call.now) (λ p. request_of first_id p call.now)
+        target.now
+        (L.content wire.old) (L.content wire.new) (L.faults wire.old) (L.faults wire.new) result }
+    ensures admitted { IfOk result (λ a. AdmitsAnswered call.now a) }
+    ensures leaves { LeavesTraffic (λ p. request_of first_id p call.now) target.now
+        (L.content wire.old)
+        (L.content wire.new) }
+    ensures disconnected { StaysDisconnected (L.content wire.old) (L.content wire.new) }
     ensures later { L.faults wire.old ≤ L.faults wire.new }
 {
     match profile_of(alloc, target) {
@@ -123,12 +125,12 @@ fn call_at<L: Wire>(
     call: &Call,
 ) -> Result<Answered, PeerFault>
     ensures same { L.same wire.old wire.new }
-    ensures called { CalledAt (outcome_told call.now) (request_of first_id profile.now call.now)
-        profile.now (L.told wire.old) (L.told wire.new) (L.faults wire.old)
+    ensures called { CalledAt (outcome_in_reply call.now) (request_of first_id profile.now call.now)
+        profile.now (L.content wire.old) (L.content wire.new) (L.faults wire.old)
         (L.faults wire.new) result }
-    ensures admitted { IfOk result (λ a. AdmitsTold call.now a) }
+    ensures admitted { IfOk result (λ a. AdmitsAnswered call.now a) }
     ensures leaves { LeavesAt (request_of first_id profile.now call.now) profile.now
-        (L.told wire.old) (L.told wire.new) }
+        (L.content wire.old) (L.content wire.new) }
     ensures later { L.faults wire.old ≤ L.faults wire.new }
 {
     match connect(alloc, wire, profile) {
@@ -157,13 +159,13 @@ pub fn evaluate_over<L: Wire>(
     extra: &Any,
 ) -> Result<Option<Boxed<Any>>, PeerFault>
     ensures same { L.same wire.old wire.new }
-    ensures called { Called (evaluation_told returned.now)
+    ensures called { CallsObject (evaluation_in_reply returned.now)
         (λ p. evaluation_of first_id p name.now returned.now extra.now) evaluator.now
-        (L.told wire.old) (L.told wire.new) (L.faults wire.old) (L.faults wire.new) result }
+        (L.content wire.old) (L.content wire.new) (L.faults wire.old) (L.faults wire.new) result }
     ensures admitted { IfOk result (λ o. AdmitsValue o) }
-    ensures leaves { Leaves (λ p. evaluation_of first_id p name.now returned.now extra.now)
-        evaluator.now (L.told wire.old) (L.told wire.new) }
-    ensures disconnected { StaysDisconnected (L.told wire.old) (L.told wire.new) }
+    ensures leaves { LeavesTraffic (λ p. evaluation_of first_id p name.now returned.now extra.now)
+        evaluator.now (L.content wire.old) (L.content wire.new) }
+    ensures disconnected { StaysDisconnected (L.content wire.old) (L.content wire.new) }
     ensures later { L.faults wire.old ≤ L.faults wire.new }
 {
     match profile_of(alloc, evaluator) {
@@ -183,12 +185,12 @@ fn evaluate_at<L: Wire>(
     extra: &Any,
 ) -> Result<Option<Boxed<Any>>, PeerFault>
     ensures same { L.same wire.old wire.new }
-    ensures called { CalledAt (evaluation_told returned.now)
+    ensures called { CalledAt (evaluation_in_reply returned.now)
         (evaluation_of first_id profile.now name.now returned.now extra.now) profile.now
-        (L.told wire.old) (L.told wire.new) (L.faults wire.old) (L.faults wire.new) result }
+        (L.content wire.old) (L.content wire.new) (L.faults wire.old) (L.faults wire.new) result }
     ensures admitted { IfOk result (λ o. AdmitsValue o) }
     ensures leaves { LeavesAt (evaluation_of first_id profile.now name.now returned.now extra.now)
-        profile.now (L.told wire.old) (L.told wire.new) }
+        profile.now (L.content wire.old) (L.content wire.new) }
     ensures later { L.faults wire.old ≤ L.faults wire.new }
 {
     match evaluation_request(alloc, FIRST_ID, profile, name, returned, extra) {
@@ -206,10 +208,10 @@ fn ask_at<L: Wire>(
     returned: &TypeCode,
 ) -> Result<Option<Boxed<Any>>, PeerFault>
     ensures same { L.same wire.old wire.new }
-    ensures called { CalledAt (evaluation_told returned.now) request.now profile.now
-        (L.told wire.old) (L.told wire.new) (L.faults wire.old) (L.faults wire.new) result }
+    ensures called { CalledAt (evaluation_in_reply returned.now) request.now profile.now
+        (L.content wire.old) (L.content wire.new) (L.faults wire.old) (L.faults wire.new) result }
     ensures admitted { IfOk result (λ o. AdmitsValue o) }
-    ensures leaves { LeavesAt request.now profile.now (L.told wire.old) (L.told wire.new) }
+    ensures leaves { LeavesAt request.now profile.now (L.content wire.old) (L.content wire.new) }
     ensures later { L.faults wire.old ≤ L.faults wire.new }
 {
     match connect(alloc, wire, profile) {

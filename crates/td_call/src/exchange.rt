@@ -2,8 +2,8 @@
 
 ghost use Rattle.std.specs.Prelude.{◌≡◌, ◌+◌, ◌<◌, ◌≤◌, ◌^◌, length, option_map, IfOk};
 ghost use Rattle.td_call.specs.Fetching.{Exchanges, Fetches};
-ghost use Rattle.td_call.specs.Moving.{Moves};
-ghost use Rattle.td_call.specs.Readings.{AdmitsTold, AdmitsValue, outcome_told, evaluation_told};
+ghost use Rattle.td_call.specs.Moving.{MovesTraffic};
+ghost use Rattle.td_call.specs.Readings.{AdmitsAnswered, AdmitsValue, outcome_in_reply, evaluation_in_reply};
 ghost use Rattle.td_call.specs.Replies.{reply_limit};
 ghost use Rattle.td_call.specs.Requests.{request_of};
 ghost use Rattle.td_wire.specs.Connections.{wrote};
@@ -32,9 +32,10 @@ fn send<L: Wire>(wire: &mut L, framer: &mut Framer, request: &[u8]) -> Result<()
     requires room { framer.old.start + length framer.old.rest + 2 ^ 27 < 2 ^ 64 }
     ensures same { L.same wire.old wire.new }
     ensures fetches { Fetches framer.old framer.new
-        (option_map (wrote request.now) (L.told wire.old)) (L.told wire.new) (L.faults wire.old)
+        (option_map (wrote request.now) (L.content wire.old)) (L.content wire.new)
+        (L.faults wire.old)
         (L.faults wire.new) result }
-    ensures moves { Moves request.now (L.told wire.old) (L.told wire.new) }
+    ensures moves { MovesTraffic request.now (L.content wire.old) (L.content wire.new) }
     ensures later { L.faults wire.old ≤ L.faults wire.new }
     ensures grows { framer.new.start + length framer.new.rest
         ≤ framer.old.start + length framer.old.rest + 2 ^ 27 }
@@ -62,11 +63,11 @@ fn exchange_outcome<L: Wire>(
     requires limit { framer.old.limit ≡ reply_limit }
     requires room { framer.old.start + length framer.old.rest + 2 ^ 27 < 2 ^ 64 }
     ensures same { L.same wire.old wire.new }
-    ensures exchanges { Exchanges (outcome_told call.now)
-        id request.now framer.old.rest framer.new.rest (L.told wire.old) (L.told wire.new)
+    ensures exchanges { Exchanges (outcome_in_reply call.now)
+        id request.now framer.old.rest framer.new.rest (L.content wire.old) (L.content wire.new)
         (L.faults wire.old) (L.faults wire.new) result }
-    ensures admitted { IfOk result (λ a. AdmitsTold call.now a) }
-    ensures moves { Moves request.now (L.told wire.old) (L.told wire.new) }
+    ensures admitted { IfOk result (λ a. AdmitsAnswered call.now a) }
+    ensures moves { MovesTraffic request.now (L.content wire.old) (L.content wire.new) }
     ensures later { L.faults wire.old ≤ L.faults wire.new }
     ensures grows { framer.new.start + length framer.new.rest
         ≤ framer.old.start + length framer.old.rest + 2 ^ 27 }
@@ -101,11 +102,14 @@ pub fn exchange_call<L: Wire>(
     requires limit { framer.old.limit ≡ reply_limit }
     requires room { framer.old.start + length framer.old.rest + 2 ^ 27 < 2 ^ 64 }
     ensures same { L.same wire.old wire.new }
-    ensures exchanges { Exchanges (outcome_told call.now) id (request_of id profile.now call.now)
-        framer.old.rest framer.new.rest (L.told wire.old) (L.told wire.new) (L.faults wire.old)
+    ensures exchanges { Exchanges (outcome_in_reply call.now) id
+        (request_of id profile.now call.now)
+        framer.old.rest framer.new.rest (L.content wire.old) (L.content wire.new)
+        (L.faults wire.old)
         (L.faults wire.new) result }
-    ensures admitted { IfOk result (λ a. AdmitsTold call.now a) }
-    ensures moves { Moves (request_of id profile.now call.now) (L.told wire.old) (L.told wire.new) }
+    ensures admitted { IfOk result (λ a. AdmitsAnswered call.now a) }
+    ensures moves { MovesTraffic (request_of id profile.now call.now) (L.content wire.old)
+        (L.content wire.new) }
     ensures later { L.faults wire.old ≤ L.faults wire.new }
     ensures grows { framer.new.start + length framer.new.rest
         ≤ framer.old.start + length framer.old.rest + 2 ^ 27 }
@@ -133,11 +137,11 @@ pub(crate) fn exchange_evaluation<L: Wire>(
     requires limit { framer.old.limit ≡ reply_limit }
     requires room { framer.old.start + length framer.old.rest + 2 ^ 27 < 2 ^ 64 }
     ensures same { L.same wire.old wire.new }
-    ensures exchanges { Exchanges (evaluation_told returned.now)
-        id request.now framer.old.rest framer.new.rest (L.told wire.old) (L.told wire.new)
+    ensures exchanges { Exchanges (evaluation_in_reply returned.now)
+        id request.now framer.old.rest framer.new.rest (L.content wire.old) (L.content wire.new)
         (L.faults wire.old) (L.faults wire.new) result }
     ensures admitted { IfOk result (λ o. AdmitsValue o) }
-    ensures moves { Moves request.now (L.told wire.old) (L.told wire.new) }
+    ensures moves { MovesTraffic request.now (L.content wire.old) (L.content wire.new) }
     ensures later { L.faults wire.old ≤ L.faults wire.new }
 {
     match send(wire, framer, request) {

@@ -5,7 +5,7 @@ ghost use Rattle.std.specs.Prelude.{MatchBool, MatchResult};
 ghost use Rattle.td_giop.specs.Stream.{first_at};
 ghost use Rattle.td_call.specs.Replies.{reply_limit};
 ghost use Rattle.td_call.specs.Fetching.{Fetches, IsWhole, Tries, piece_size};
-ghost use Rattle.td_call.specs.Moving.{Draws};
+ghost use Rattle.td_call.specs.Moving.{ReadsUnasked};
 
 use td_giop::{FrameFault, Framer};
 use td_walk::PeerFault;
@@ -42,11 +42,11 @@ fn is_whole(framer: &mut Framer) -> Result<bool, FrameFault>
 fn take_piece<L: Wire>(wire: &mut L, framer: &mut Framer) -> Result<bool, PeerFault>
     requires { framer.old.start + (length framer.old.rest + piece_size) < 2 ^ 64 }
     ensures same { L.same wire.old wire.new }
-    ensures tries { Tries framer.old framer.new (L.told wire.old) (L.told wire.new)
+    ensures tries { Tries framer.old framer.new (L.content wire.old) (L.content wire.new)
         (L.faults wire.old) (L.faults wire.new) result }
     ensures later { L.faults wire.old ≤ L.faults wire.new }
     ensures kept { OnErr result (framer.new ≡ framer.old) }
-    ensures draws { Draws (L.told wire.old) (L.told wire.new) }
+    ensures draws { ReadsUnasked (L.content wire.old) (L.content wire.new) }
 {
     let mut buffer = [0u8; PIECE_SIZE];
     match wire.read(&mut buffer) {
@@ -69,13 +69,13 @@ pub(crate) fn fetch<L: Wire>(wire: &mut L, framer: &mut Framer) -> Result<(), Pe
     requires limit { framer.old.limit ≡ reply_limit }
     requires room { framer.old.start + length framer.old.rest + 2 ^ 27 < 2 ^ 64 }
     ensures same { L.same wire.old wire.new }
-    ensures fetches { Fetches framer.old framer.new (L.told wire.old) (L.told wire.new)
+    ensures fetches { Fetches framer.old framer.new (L.content wire.old) (L.content wire.new)
         (L.faults wire.old) (L.faults wire.new) result }
     ensures later { L.faults wire.old ≤ L.faults wire.new }
     ensures grows { framer.new.start + length framer.new.rest
         ≤ framer.old.start + length framer.old.rest + 2 ^ 27 }
     ensures kept { framer.new.limit ≡ framer.old.limit }
-    ensures draws { Draws (L.told wire.old) (L.told wire.new) }
+    ensures draws { ReadsUnasked (L.content wire.old) (L.content wire.new) }
 {
     loop {
         match is_whole(framer) {

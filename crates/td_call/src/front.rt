@@ -3,10 +3,10 @@
 ghost use Rattle.std.specs.Prelude.{◌≡◌, IfOk, MatchOption};
 ghost use Rattle.td_giop.specs.Heads.{IsReadable};
 ghost use Rattle.td_call.specs.Replies.{body_of, reply_head, reply_body, message_read, reply_limit};
-ghost use Rattle.td_call.specs.Readings.{AdmitsTold, AdmitsValue, outcome_told, evaluation_told};
-ghost use Rattle.td_call.specs.Fetching.{IsRead, ReadsFront};
+ghost use Rattle.td_call.specs.Readings.{AdmitsAnswered, AdmitsValue, outcome_in_reply, evaluation_in_reply};
+ghost use Rattle.td_call.specs.Fetching.{IsReadOrFault, ReadsFront};
 
-use crate::reading::{evaluation_told, outcome_told};
+use crate::reading::{evaluation_in_reply, outcome_in_reply};
 use std::alloc::Global;
 use td_cdr::{Boxed, Reader};
 use td_giop::message_type::REPLY;
@@ -48,7 +48,7 @@ fn body_of<'a>(head: &ReplyHead<'a>, id: u32) -> Option<(u32, Reader<'a>)>
 }
 
 /// What a message tells as the reply to a call.
-#[tactic(auto, using(crate::proofs::Bodies::no_body, crate::proofs::Bodies::body_told))]
+#[tactic(auto, using(crate::proofs::Bodies::no_body, crate::proofs::Bodies::body_in_reply))]
 fn read_outcome_in(
     alloc: Global,
     message: &Raw<'_>,
@@ -56,21 +56,21 @@ fn read_outcome_in(
     call: &Call,
 ) -> Result<Answered, PeerFault>
     requires { IsReadable message.now.bytes.now }
-    ensures reads { IsRead (message_read (outcome_told call.now)
+    ensures reads { IsReadOrFault (message_read (outcome_in_reply call.now)
         id message.now.kind message.now.order message.now.bytes.now) result }
-    ensures admitted { IfOk result (λ a. AdmitsTold call.now a) }
+    ensures admitted { IfOk result (λ a. AdmitsAnswered call.now a) }
 {
     match reply_body(message, id) {
         None => Err(PeerFault::Grammar),
         Some((status, body)) => {
             let mut body = body;
-            outcome_told(alloc, call, status, &mut body)
+            outcome_in_reply(alloc, call, status, &mut body)
         }
     }
 }
 
 /// What a message tells as the reply to evalDP.
-#[tactic(auto, using(crate::proofs::Bodies::no_body, crate::proofs::Bodies::body_told))]
+#[tactic(auto, using(crate::proofs::Bodies::no_body, crate::proofs::Bodies::body_in_reply))]
 fn read_evaluation_in(
     alloc: Global,
     message: &Raw<'_>,
@@ -78,7 +78,7 @@ fn read_evaluation_in(
     returned: &TypeCode,
 ) -> Result<Option<Boxed<Any>>, PeerFault>
     requires { IsReadable message.now.bytes.now }
-    ensures reads { IsRead (message_read (evaluation_told returned.now)
+    ensures reads { IsReadOrFault (message_read (evaluation_in_reply returned.now)
         id message.now.kind message.now.order message.now.bytes.now) result }
     ensures admitted { IfOk result (λ o. AdmitsValue o) }
 {
@@ -86,7 +86,7 @@ fn read_evaluation_in(
         None => Err(PeerFault::Grammar),
         Some((status, body)) => {
             let mut body = body;
-            evaluation_told(alloc, returned, status, &mut body)
+            evaluation_in_reply(alloc, returned, status, &mut body)
         }
     }
 }
@@ -104,8 +104,8 @@ pub(crate) fn front_outcome(
 ) -> Result<Answered, PeerFault>
     requires { framer.old.limit ≡ reply_limit }
     ensures framer { framer.new ≡ framer.old }
-    ensures reads { ReadsFront (outcome_told call.now) id framer.old.rest result }
-    ensures admitted { IfOk result (λ a. AdmitsTold call.now a) }
+    ensures reads { ReadsFront (outcome_in_reply call.now) id framer.old.rest result }
+    ensures admitted { IfOk result (λ a. AdmitsAnswered call.now a) }
 {
     match framer.next_message() {
         Err(_) => Err(PeerFault::Grammar),
@@ -127,7 +127,7 @@ pub(crate) fn front_evaluation(
 ) -> Result<Option<Boxed<Any>>, PeerFault>
     requires { framer.old.limit ≡ reply_limit }
     ensures framer { framer.new ≡ framer.old }
-    ensures reads { ReadsFront (evaluation_told returned.now) id framer.old.rest result }
+    ensures reads { ReadsFront (evaluation_in_reply returned.now) id framer.old.rest result }
     ensures admitted { IfOk result (λ o. AdmitsValue o) }
 {
     match framer.next_message() {

@@ -3,12 +3,12 @@
 ghost use Rattle.std.specs.Prelude.{◌≡◌, if◌then◌else◌, IfOk};
 ghost use Rattle.td_cdr.specs.Format.{Gives};
 ghost use Rattle.td_cdr.specs.ValueFaults.{is_memory};
-ghost use Rattle.td_codes.specs.Values.{any_value};
+ghost use Rattle.td_typecode.specs.Values.{any_value};
 ghost use Rattle.td_ops.specs.declared.call.Call.TheVariants.{NonExistent};
 ghost use Rattle.td_walk.specs.declared.fault.PeerFault.TheVariants as peer;
-ghost use Rattle.td_call.specs.Fetching.{IsRead};
-ghost use Rattle.td_call.specs.Readings.{AdmitsTold, outcome_told, may_stand, standing, value_given};
-ghost use Rattle.td_call.specs.Readings.{AdmitsValue, exception_given, evaluation_told};
+ghost use Rattle.td_call.specs.Fetching.{IsReadOrFault};
+ghost use Rattle.td_call.specs.Readings.{AdmitsAnswered, outcome_in_reply, may_stand, any_result, value_given};
+ghost use Rattle.td_call.specs.Readings.{AdmitsValue, exception_given, evaluation_in_reply};
 
 use std::alloc::Global;
 use td_cdr::{Boxed, Memory, Reader, ValueFault};
@@ -22,15 +22,15 @@ use td_walk::{LONGEST_VALUE, PeerFault};
 /// # Errors
 ///
 /// `Grammar` where the body can't be read, and `Memory`.
-#[tactic(auto, using(crate::proofs::Bodies::told_admitted))]
-pub(crate) fn outcome_told(
+#[tactic(auto, using(crate::proofs::Bodies::content_admitted))]
+pub(crate) fn outcome_in_reply(
     alloc: Global,
     call: &Call,
     status: u32,
     body: &mut Reader,
 ) -> Result<Answered, PeerFault>
-    ensures reads { IsRead (outcome_told call.now status body.old) result }
-    ensures admitted { IfOk result (λ a. AdmitsTold call.now a) }
+    ensures reads { IsReadOrFault (outcome_in_reply call.now status body.old) result }
+    ensures admitted { IfOk result (λ a. AdmitsAnswered call.now a) }
 {
     match read_outcome(alloc, call, status, body) {
         Ok(answer) => Ok(answer),
@@ -46,13 +46,13 @@ pub(crate) fn outcome_told(
 /// # Errors
 ///
 /// `Grammar` where the body can't be read, for a value of another type and for one of more than 16 KiB; and `Memory`.
-pub(crate) fn evaluation_told(
+pub(crate) fn evaluation_in_reply(
     alloc: Global,
     returned: &TypeCode,
     status: u32,
     body: &mut Reader,
 ) -> Result<Option<Boxed<Any>>, PeerFault>
-    ensures reads { IsRead (evaluation_told returned.now status body.old) result }
+    ensures reads { IsReadOrFault (evaluation_in_reply returned.now status body.old) result }
     ensures admitted { IfOk result (λ o. AdmitsValue o) }
 {
     if status == 0 {
@@ -63,13 +63,14 @@ pub(crate) fn evaluation_told(
 }
 
 /// The value that an evaluator gives.
-#[tactic(auto, using(crate::proofs::Bodies::value_refused, crate::proofs::Bodies::value_told))]
+#[tactic(auto, using(crate::proofs::Bodies::value_refused, crate::proofs::Bodies::parse_value))]
 fn value_given(
     alloc: Global,
     returned: &TypeCode,
     body: &mut Reader,
 ) -> Result<Option<Boxed<Any>>, PeerFault>
-    ensures reads { IsRead (value_given returned.now (any_value.format.reads body.old)) result }
+    ensures reads { IsReadOrFault (value_given returned.now (any_value.format.reads body.old))
+        result }
     ensures admitted { IfOk result (λ o. AdmitsValue o) }
 {
     match read_boxed(alloc, body) {
@@ -95,7 +96,7 @@ fn standing(
     value: Boxed<Any>,
 ) -> Result<Option<Boxed<Any>>, PeerFault>
     requires { any_value.format.admits value }
-    ensures reads { IsRead (standing returned.now value) result }
+    ensures reads { IsReadOrFault (any_result returned.now value) result }
     ensures admitted { IfOk result (λ o. AdmitsValue o) }
 {
     match may_stand(alloc, returned, value.get()) {
@@ -124,16 +125,17 @@ fn may_stand(alloc: Global, returned: &TypeCode, value: &Any) -> Result<bool, Me
 }
 
 /// None, where the body is an exception.
-#[tactic(auto, using(crate::proofs::Bodies::exception_told, crate::proofs::Bodies::exception_refused))]
+#[tactic(auto, using(crate::proofs::Bodies::exception_content, crate::proofs::Bodies::exception_refused))]
 fn exception_given(
     alloc: Global,
     status: u32,
     body: &mut Reader,
 ) -> Result<Option<Boxed<Any>>, PeerFault>
-    ensures reads { IsRead (exception_given (outcome_told NonExistent status body.old)) result }
+    ensures reads { IsReadOrFault (exception_given (outcome_in_reply NonExistent status body.old))
+        result }
     ensures admitted { IfOk result (λ o. AdmitsValue o) }
 {
-    let answer = outcome_told(alloc, &Call::NonExistent, status, body);
+    let answer = outcome_in_reply(alloc, &Call::NonExistent, status, body);
     match answer {
         Ok(answer) => {
             drop(answer);

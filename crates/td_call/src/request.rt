@@ -2,7 +2,7 @@
 
 ghost use Rattle.std.specs.Prelude.{◌≡◌, ◌≤◌, [], ◌++◌, length, IfOk};
 ghost use Rattle.td_giop.specs.declared.header.TheConstants.{NEWEST_MINOR};
-ghost use Rattle.td_call.specs.Requests.{request_of, evaluation_of, spoken};
+ghost use Rattle.td_call.specs.Requests.{request_of, evaluation_of, spoken_minor};
 
 use std::alloc::Global;
 use td_cdr::{Memory, Order, Text, Writer, put_three};
@@ -15,8 +15,8 @@ use td_value::{Any, TypeCode};
 const EVAL_DP: &str = "evalDP";
 
 /// The minor version of GIOP that an object is called in: 0 where its profile is of IIOP 1.0, else 1.
-fn spoken(profile: &Iiop) -> u8
-    ensures spoken { result ≡ spoken profile.now.minor }
+fn spoken_minor(profile: &Iiop) -> u8
+    ensures spoken { result ≡ spoken_minor profile.now.minor }
     ensures written { result ≤ NEWEST_MINOR }
 {
     if profile.minor == 0 { 0 } else { 1 }
@@ -26,7 +26,7 @@ fn spoken(profile: &Iiop) -> u8
 ///
 /// # Errors
 ///
-/// `Memory` for want of memory, or where the message would come to 2^32 bytes.
+/// `Memory` when out of memory, or where the message would come to 2^32 bytes.
 #[tactic(auto, unfolding(crate::specs::Requests::request_bytes))]
 pub(crate) fn call_request(
     alloc: Global,
@@ -39,7 +39,7 @@ pub(crate) fn call_request(
     let mut w = Writer::new(alloc, Order::Big);
     let key = profile.key.as_slice();
     let operation = operation_of(call).as_bytes();
-    start_request(&mut w, spoken(profile), id, true, key, operation)?;
+    start_request(&mut w, spoken_minor(profile), id, true, key, operation)?;
     write_call(alloc, &mut w, call)?;
     seal(&mut w);
     Ok(w)
@@ -64,7 +64,14 @@ pub(crate) fn evaluation_request(
 {
     let mut w = Writer::new(alloc, Order::Big);
     let key = profile.key.as_slice();
-    start_request(&mut w, spoken(profile), id, true, key, EVAL_DP.as_bytes())?;
+    start_request(
+        &mut w,
+        spoken_minor(profile),
+        id,
+        true,
+        key,
+        EVAL_DP.as_bytes(),
+    )?;
     put_three(alloc, &mut w, name, returned, extra)?;
     seal(&mut w);
     Ok(w)

@@ -3,7 +3,7 @@
 ghost use Rattle.std.specs.Prelude.{◌≡◌, ◌≤◌, option_map, OnOk, OnErr};
 ghost use Rattle.td_out.specs.Causes.{Rose};
 ghost use Rattle.td_wire.specs.Connections.{wrote};
-ghost use Rattle.td_call.specs.Moving.{Sends};
+ghost use Rattle.td_call.specs.Moving.{SendsFront};
 
 use td_out::Failed;
 use td_wire::Wire;
@@ -16,9 +16,10 @@ use td_wire::Wire;
 #[tactic(auto, using(crate::proofs::Moving::sends_kept))]
 pub(crate) fn write_all<L: Wire>(wire: &mut L, piece: &[u8]) -> Result<(), Failed>
     ensures same { L.same wire.old wire.new }
-    ensures bytes { OnOk result (L.told wire.new ≡ option_map (wrote piece.now) (L.told wire.old)) }
+    ensures bytes { OnOk result (L.content wire.new ≡ option_map (wrote piece.now)
+        (L.content wire.old)) }
     ensures later { L.faults wire.old ≤ L.faults wire.new }
-    ensures sends { Sends piece.now (L.told wire.old) (L.told wire.new) }
+    ensures sends { SendsFront piece.now (L.content wire.old) (L.content wire.new) }
     ensures failed { OnErr result (Rose (L.faults wire.old) (L.faults wire.new)) }
 {
     let mut rest = piece;

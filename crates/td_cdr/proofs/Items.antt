@@ -94,7 +94,7 @@ one-value item order place v w b c more others s t e =
     ∙ read-as item order place w c others (b ++ more) t e) in
     ap (λ (p : ValueOf item × At). p.0) same
 
--- ---- no reading wants memory
+-- ---- no reading runs out of memory
 
 pub number-takes_none : (size : ℕ) (a : At) → NumberFault size a Memory → ⊥
 number-takes_none size a n = cc n.fault
@@ -117,7 +117,7 @@ within-takes_none inner none a (WithinFault.octets o) =
     octets-takes_none a (subst (λ (e : CdrFault). OctetsFault a e) (sym o.fault) o.holds)
 within-takes_none inner none a (WithinFault.empty next found fault) = cc fault
 within-takes_none inner none a (WithinFault.order flag body next found above fault) = cc fault
-within-takes_none inner none a (WithinFault.inside little flag body next found told d) =
+within-takes_none inner none a (WithinFault.inside little flag body next found content d) =
     none (within_at a little body) d
 
 then-takes_none : {X : Type 0} (spells : Order → ℕ → X → List ℕ → Type 0) (first : At → CdrFault → Type 0)
@@ -144,4 +144,4 @@ item-takes_none (pair first second) =
 item-takes_none (encapsulated inner) = within-takes_none (IsFaulty inner) (item-takes_none inner)
 
 pub takes-no-memory : (item : Item) (a : At) → a.origin ≤ a.place → reading item a ≡ Err Memory → ⊥
-takes-no-memory item a h e = item-takes_none item a ((item-refuses item).told a Memory h e)
+takes-no-memory item a h e = item-takes_none item a ((item-refuses item).content a Memory h e)

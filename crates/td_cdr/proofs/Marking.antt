@@ -10,15 +10,16 @@ use Rattle.td_cdr.specs.Gap.{bytes_of}
 use Rattle.td_cdr.specs.Reading.{number}
 use Rattle.byteorder.specs.Numbers.{big_number-reads_back}
 use Rattle.std.proofs.lemmas.List.{append-nil}
-use Rattle.td_cdr.specs.Marks.{Marks, Remembered, In, Holds, entry_of, remembered, Numbered, Orderly, without_first}
-use Rattle.td_cdr.specs.Marks.{kept_beside, marked, made_identifier, Later, Follows, last_identifier}
+use Rattle.td_cdr.specs.Marks.{Marks, RememberedMark, In, RemembersAs, entry_of, remembered, AreNumbered, KeepsLatest}
+use Rattle.td_cdr.specs.Marks.{without_first}
+use Rattle.td_cdr.specs.Marks.{kept_beside, add_mark, made_identifier, Later, IsMarkedFrom, last_identifier}
 
 -- ---- lists
 
-abbrev identifier_of : Remembered → List ℕ
+abbrev identifier_of : RememberedMark → List ℕ
 identifier_of e = e.identifier
 
-abbrev number_of : Remembered → ℕ
+abbrev number_of : RememberedMark → ℕ
 number_of e = e.number
 
 in-last : {X : Type 0} (x : X) (xs : List X) → In x (xs ++ x ∷ [])
@@ -42,57 +43,57 @@ in-cases a x (y ∷ xs) (inr h) = either-behind (in-cases a x xs h)
 
 -- ---- numbers
 
-numbered-snoc : (k : ℕ) (es : List Remembered) (n : ℕ) (e : Remembered) → Numbered k es n → e.number ≡ n + 1
-    → Numbered k (es ++ e ∷ []) (n + 1)
+numbered-snoc : (k : ℕ) (es : List RememberedMark) (n : ℕ) (e : RememberedMark) → AreNumbered k es n → e.number ≡ n + 1
+    → AreNumbered k (es ++ e ∷ []) (n + 1)
 numbered-snoc k [] n e r is = (is ∙ ap (λ x. x + 1) (sym r), ap (λ x. x + 1) r)
 numbered-snoc k (f ∷ es) n e r is = (r.0, numbered-snoc (k + 1) es n e r.1 is)
 
-last-snoc : (es : List Remembered) (e : Remembered) → last_identifier (es ++ e ∷ []) ≡ e.identifier
+last-snoc : (es : List RememberedMark) (e : RememberedMark) → last_identifier (es ++ e ∷ []) ≡ e.identifier
 last-snoc [] e = refl
 last-snoc (f ∷ []) e = refl
 last-snoc (f ∷ g ∷ es) e = last-snoc (g ∷ es) e
 
-numbered-first : (k : ℕ) (es : List Remembered) (n : ℕ) → k < n → Numbered k es n
-    → Numbered (k + 1) (without_first es) n
+numbered-first : (k : ℕ) (es : List RememberedMark) (n : ℕ) → k < n → AreNumbered k es n
+    → AreNumbered (k + 1) (without_first es) n
 numbered-first k [] n less r = absurd (omega arith)
 numbered-first k (e ∷ es) n less r = r.1
 
-not_first : (k : ℕ) (es : List Remembered) (n : ℕ) (e : Remembered) → Numbered k es n → In e es → k + 1 < e.number
+not_first : (k : ℕ) (es : List RememberedMark) (n : ℕ) (e : RememberedMark) → AreNumbered k es n → In e es → k + 1 < e.number
     → In e (without_first es)
 not_first k [] n e r h above = h
 not_first k (f ∷ es) n e r (inl p) above =
-    absurd (let z : e.number ≡ f.number = ap (λ (x : Remembered). x.number) p in let y = r.0 in omega arith)
+    absurd (let z : e.number ≡ f.number = ap (λ (x : RememberedMark). x.number) p in let y = r.0 in omega arith)
 not_first k (f ∷ es) n e r (inr h) above = h
 
-in-rest : (e : Remembered) (es : List Remembered) → In e (without_first es) → In e es
+in-rest : (e : RememberedMark) (es : List RememberedMark) → In e (without_first es) → In e es
 in-rest e [] h = h
 in-rest e (f ∷ es) h = inr h
 
 -- ---- what stays
 
-stays : (m : Marks) (b : Bool) → nat_lt m.count m.ring ≡ b → Orderly m
-    → Numbered (m.count + 1 - m.ring) (cond b m.kept (without_first m.kept)) m.count
-    × ((e : Remembered) → In e m.kept → m.count + 1 < e.number + m.ring → In e (cond b m.kept (without_first m.kept)))
+stays : (m : Marks) (b : Bool) → nat_lt m.count m.ring ≡ b → KeepsLatest m
+    → AreNumbered (m.count + 1 - m.ring) (cond b m.kept (without_first m.kept)) m.count
+    × ((e : RememberedMark) → In e m.kept → m.count + 1 < e.number + m.ring → In e (cond b m.kept (without_first m.kept)))
 stays m true is p =
     let less = ltb-true m.count m.ring is in
     let room = p.room in
     let start : m.count - m.ring ≡ m.count + 1 - m.ring = omega arith in
-    (subst (λ k. Numbered k m.kept m.count) start p.numbers, λ e h above. h)
+    (subst (λ k. AreNumbered k m.kept m.count) start p.numbers, λ e h above. h)
 stays m false is p =
     let most = ltb-false m.count m.ring is in
     let room = p.room in
     let start : (m.count - m.ring) + 1 ≡ m.count + 1 - m.ring = omega arith in (
-      subst (λ k. Numbered k (without_first m.kept) m.count) start
+      subst (λ k. AreNumbered k (without_first m.kept) m.count) start
           (numbered-first (m.count - m.ring) m.kept m.count (omega arith) p.numbers),
       λ e h above. not_first (m.count - m.ring) m.kept m.count e p.numbers h (omega arith),
     )
 
-stayed : (m : Marks) (b : Bool) (e : Remembered) → In e (cond b m.kept (without_first m.kept)) → In e m.kept
+stayed : (m : Marks) (b : Bool) (e : RememberedMark) → In e (cond b m.kept (without_first m.kept)) → In e m.kept
 stayed m true e h = h
 stayed m false e h = in-rest e m.kept h
 
-pub follows : (m : Marks) (i : List ℕ) (c : ℕ) → Orderly m → m.counter ≤ c → ((n : ℕ) → Holds m i n → ⊥)
-    → Follows m (marked m i c)
+pub follows : (m : Marks) (i : List ℕ) (c : ℕ) → KeepsLatest m → m.counter ≤ c → ((n : ℕ) → RemembersAs m i n → ⊥)
+    → IsMarkedFrom m (add_mark m i c)
 follows m i c p up fresh =
     let s = stays m (nat_lt m.count m.ring) refl p in
     let x = entry_of i (m.count + 1) in
@@ -107,7 +108,7 @@ follows m i c p up fresh =
       };
       new = record {
         count = refl;
-        fresh = λ e h is. fresh e.number (subst (λ j. Holds m j e.number) (is ∙ last) h);
+        fresh = λ e h is. fresh e.number (subst (λ j. RemembersAs m j e.number) (is ∙ last) h);
         kept =
             subst (λ j. In (entry_of j (m.count + 1)) (kept_beside m ++ x ∷ [])) (sym last) (in-last x (kept_beside m));
       };
@@ -115,31 +116,31 @@ follows m i c p up fresh =
           record { room = p.room; numbers = numbered-snoc (m.count + 1 - m.ring) (kept_beside m) m.count x s.0 refl };
     }
 
-pub newest : (m : Marks) (i : List ℕ) (c : ℕ) → Holds (marked m i c) i (m.count + 1)
+pub newest : (m : Marks) (i : List ℕ) (c : ℕ) → RemembersAs (add_mark m i c) i (m.count + 1)
 newest m i c = in-last (entry_of i (m.count + 1)) (kept_beside m)
 
-pub no_other : (m : Marks) (i j : List ℕ) (c n : ℕ) → Holds (marked m i c) j n
-    → Holds m j n ⊎ ((i ≡ j) × (m.count + 1 ≡ n))
+pub no_other : (m : Marks) (i j : List ℕ) (c n : ℕ) → RemembersAs (add_mark m i c) j n
+    → RemembersAs m j n ⊎ ((i ≡ j) × (m.count + 1 ≡ n))
 no_other m i j c n h = from (in-cases (entry_of j n) (entry_of i (m.count + 1)) (kept_beside m) h)
   where
     from : In (entry_of j n) (kept_beside m) ⊎ (entry_of j n ≡ entry_of i (m.count + 1))
-        → Holds m j n ⊎ ((i ≡ j) × (m.count + 1 ≡ n))
+        → RemembersAs m j n ⊎ ((i ≡ j) × (m.count + 1 ≡ n))
     from (inl k) = inl (stayed m (nat_lt m.count m.ring) (entry_of j n) k)
     from (inr e) = inr (sym (ap identifier_of e), sym (ap number_of e))
 
-pub stays_remembered : (m : Marks) (i j : List ℕ) (c n : ℕ) → Orderly m → m.count + 1 < n + m.ring → Holds m j n
-    → Holds (marked m i c) j n
+pub stays_remembered : (m : Marks) (i j : List ℕ) (c n : ℕ) → KeepsLatest m → m.count + 1 < n + m.ring → RemembersAs m j n
+    → RemembersAs (add_mark m i c) j n
 stays_remembered m i j c n p above h =
     in-before (entry_of j n) (entry_of i (m.count + 1)) (kept_beside m)
     ((stays m (nat_lt m.count m.ring) refl p).1 (entry_of j n) h above)
 
 -- ---- what is remembered
 
-abbrev Among : List Remembered → List ℕ → Option ℕ → Type 0
+abbrev Among : List RememberedMark → List ℕ → Option ℕ → Type 0
 Among es i None = (n : ℕ) → In (entry_of i n) es → ⊥
 Among es i (Some n) = In (entry_of i n) es
 
-behind : (e : Remembered) (es : List Remembered) (i : List ℕ) (o : Option ℕ) → bytes_eq e.identifier i ≡ false
+behind : (e : RememberedMark) (es : List RememberedMark) (i : List ℕ) (o : Option ℕ) → bytes_eq e.identifier i ≡ false
     → Among es i o → Among (e ∷ es) i o
 behind e es i None apart rest = λ n. not_here n (rest n)
   where
@@ -149,20 +150,20 @@ behind e es i None apart rest = λ n. not_here n (rest n)
     not_here n others (inr h) = others h
 behind e es i (Some n) apart rest = inr rest
 
-here : (e : Remembered) (es : List Remembered) (i : List ℕ) (found : Option Remembered) (b : Bool)
+here : (e : RememberedMark) (es : List RememberedMark) (i : List ℕ) (found : Option RememberedMark) (b : Bool)
     → bytes_eq e.identifier i ≡ b → Among es i (option_map number_of found)
     → Among (e ∷ es) i (option_map number_of (cond b (Some e) found))
 here e es i found true same rest = inl (ap (λ j. entry_of j e.number) (sym ((bytes_eq-Decides e.identifier i).0 same)))
 here e es i found false apart rest = behind e es i (option_map number_of found) apart rest
 
-among : (es : List Remembered) (i : List ℕ) → Among es i (option_map number_of (find (λ e. bytes_eq e.identifier i) es))
+among : (es : List RememberedMark) (i : List ℕ) → Among es i (option_map number_of (find (λ e. bytes_eq e.identifier i) es))
 among [] i = λ n h. h
 among (e ∷ es) i = here e es i (find (λ e. bytes_eq e.identifier i) es) (bytes_eq e.identifier i) refl (among es i)
 
-pub is_held : (m : Marks) (i : List ℕ) (n : ℕ) → remembered m i ≡ Some n → Holds m i n
+pub is_held : (m : Marks) (i : List ℕ) (n : ℕ) → remembered m i ≡ Some n → RemembersAs m i n
 is_held m i n h = subst (Among m.kept i) h (among m.kept i)
 
-pub is_not_held : (m : Marks) (i : List ℕ) → remembered m i ≡ None → (n : ℕ) → Holds m i n → ⊥
+pub is_not_held : (m : Marks) (i : List ℕ) → remembered m i ≡ None → (n : ℕ) → RemembersAs m i n → ⊥
 is_not_held m i h = subst (Among m.kept i) h (among m.kept i)
 
 -- ---- marks that grow

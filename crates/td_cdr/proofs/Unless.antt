@@ -1,4 +1,4 @@
--- What a call says unless it wants memory.
+-- What a call says unless it runs out of memory.
 use Rattle.std.proofs.Common.{Bool, true, false}
 use Rattle.td_cdr.specs.Format.{Unless}
 

@@ -8,25 +8,26 @@ use Rattle.td_cdr.specs.declared.fault.CdrFault.TheVariants.{Short, BadBoolean, 
 use Rattle.td_cdr.specs.Truth.{order_of}
 use Rattle.td_cdr.specs.Text.{HasNoNul}
 use Rattle.td_cdr.specs.Place.{At}
-use Rattle.td_cdr.specs.Reading.{padding, aligned}
-use Rattle.td_cdr.specs.Spelling.{SpellsNumber, SpellsOctets, IsFlag, Found}
+use Rattle.td_cdr.specs.Reading.{padding, next_aligned}
+use Rattle.td_cdr.specs.Spelling.{SpellsNumber, SpellsOctets, IsFlag, FoundSpelling}
 
 -- the padding or the bytes of a primitive run past the end
 pub record NumberFault (size : ℕ) (a : At) (f : CdrFault) : Type 0 where
   pub past : length a.rest < padding size a + size
-  pub fault : f ≡ Short (aligned size a)
+  pub fault : f ≡ Short (next_aligned size a)
 
 -- no octet, or one above 1
 pub data BooleanFault (a : At) (f : CdrFault) : Type 0 where
   cut : NumberFault 1 a f → BooleanFault a f
-  above : (octet : ℕ) (next : At) → Found (SpellsNumber 1) a octet next → 1 < octet
+  above : (octet : ℕ) (next : At) → FoundSpelling (SpellsNumber 1) a octet next → 1 < octet
       → f ≡ BadBoolean a.place → BooleanFault a f
 
 -- no length, or one above the bytes that follow it
 pub data OctetsFault (a : At) (f : CdrFault) : Type 0 where
   cut : NumberFault 4 a f → OctetsFault a f
-  above : (count : ℕ) (next : At) → Found (SpellsNumber 4) a count next → length next.rest < count
-      → f ≡ TooLong (aligned 4 a) → OctetsFault a f
+  above : (count : ℕ) (next : At) → FoundSpelling (SpellsNumber 4) a count next → length next.rest
+      < count
+      → f ≡ TooLong (next_aligned 4 a) → OctetsFault a f
 
 -- the last byte is a NUL, and no other
 pub record IsClosed (kept : List ℕ) : Type 0 where
@@ -37,8 +38,8 @@ pub record IsClosed (kept : List ℕ) : Type 0 where
 -- no octets, or some that a NUL doesn't close
 pub data StringFault (a : At) (f : CdrFault) : Type 0 where
   octets : OctetsFault a f → StringFault a f
-  unclosed : (kept : List ℕ) (next : At) → Found SpellsOctets a kept next → 0 < length kept
-      → ¬ (IsClosed kept) → f ≡ BadString (aligned 4 a) → StringFault a f
+  unclosed : (kept : List ℕ) (next : At) → FoundSpelling SpellsOctets a kept next → 0 < length kept
+      → ¬ (IsClosed kept) → f ≡ BadString (next_aligned 4 a) → StringFault a f
 
 -- where the octet stands that tells the order of the encapsulation whose length is next
 abbrev pub order_place : At → ℕ
@@ -65,23 +66,23 @@ pub record OuterFault {E F : Type 0} (c : E → F) (inner : At → E → Type 0)
 pub data WithinFault {F : Type 0} (c : CdrFault → F) (inner : At → F → Type 0) (a : At)
     (f : F) : Type 0 where
   octets : OuterFault c OctetsFault a f → WithinFault c inner a f
-  empty : (next : At) → Found SpellsOctets a [] next → f ≡ c (Short (aligned 4 a))
+  empty : (next : At) → FoundSpelling SpellsOctets a [] next → f ≡ c (Short (next_aligned 4 a))
       → WithinFault c inner a f
-  order : (flag : ℕ) (body : List ℕ) (next : At) → Found SpellsOctets a (flag ∷ body) next
+  order : (flag : ℕ) (body : List ℕ) (next : At) → FoundSpelling SpellsOctets a (flag ∷ body) next
       → 1 < flag → f ≡ c (BadBoolean (order_place a)) → WithinFault c inner a f
   inside : (little : Bool) (flag : ℕ) (body : List ℕ) (next : At)
-      → Found SpellsOctets a (flag ∷ body) next
+      → FoundSpelling SpellsOctets a (flag ∷ body) next
       → IsFlag little flag → inner (within_at a little body) f → WithinFault c inner a f
 
 -- the first item is no value, or it is one and the second, where the first ended, is none
 pub data ThenFault {F X : Type 0} (spells : Order → ℕ → X → List ℕ → Type 0)
     (first : At → F → Type 0) (second : X → At → F → Type 0) (a : At) (f : F) : Type 0 where
   first : first a f → ThenFault spells first second a f
-  second : (v : X) (next : At) → Found spells a v next → second v next f
+  second : (v : X) (next : At) → FoundSpelling spells a v next → second v next f
       → ThenFault spells first second a f
 
 -- a reading is refused with f exactly where f is the fault
 pub record Refuses {F Y : Type 0} (faulty : At → F → Type 0)
     (reading : At → Result (Y × At) F) : Type 0 where
-  pub told : (a : At) (f : F) → a.origin ≤ a.place → reading a ≡ Err f → faulty a f
+  pub content : (a : At) (f : F) → a.origin ≤ a.place → reading a ≡ Err f → faulty a f
   pub only : (a : At) (f : F) → a.origin ≤ a.place → faulty a f → reading a ≡ Err f

@@ -261,7 +261,7 @@ abbrev pub Unless : Bool → Type 0 → Type 0
 Unless true P = Unit {0}
 Unless false P = P
 
--- What a call answered, seen by view, is what this comes to; a fault that is want of memory tells nothing
+-- What a call answered, seen by view, is what this comes to; a fault that is running out of memory tells nothing
 abbrev pub Computes : {F X Y : Type 0} → (F → Bool) → (X → Y) → Result X F → Result Y F → Type 0
 Computes is_memory view (Ok x) comes = comes ≡ Ok (view x)
 Computes is_memory view (Err e) comes = Unless (is_memory e) (comes ≡ Err e)
@@ -271,7 +271,7 @@ abbrev pub Shows : {F X Y : Type 0} → (X → Y) → At → Result X F → Read
 Shows view new (Ok x) reading = reading ≡ Ok (view x, new)
 Shows view new (Err e) reading = reading ≡ Err e
 
--- What a call answered is what reading gives; a fault that is want of memory tells nothing
+-- What a call answered is what reading gives; a fault that is running out of memory tells nothing
 abbrev pub Gives : {F Y : Type 0} → (F → Bool) → At → Result Y F → Read F Y → Type 0
 Gives is_memory new (Ok y) reading = reading ≡ Ok (y, new)
 Gives is_memory new (Err e) reading = Unless (is_memory e) (reading ≡ Err e)

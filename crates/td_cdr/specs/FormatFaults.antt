@@ -4,7 +4,7 @@ use Rattle.std.specs.Prelude.{◌≡◌, ℕ, ◌<◌, Bool, false, List, length
 use Rattle.td_cdr.specs.declared.order.Order.{Order}
 use Rattle.td_cdr.specs.declared.fault.CdrFault.{CdrFault}
 use Rattle.td_cdr.specs.Place.{At}
-use Rattle.td_cdr.specs.Spelling.{SpellsNumber, Found}
+use Rattle.td_cdr.specs.Spelling.{SpellsNumber, FoundSpelling}
 use Rattle.td_cdr.specs.Faults.{NumberFault, OuterFault, ThenFault}
 use Rattle.td_cdr.specs.Format.{Format, array_format}
 
@@ -24,14 +24,14 @@ each_fault bad a f = f ≡ bad a
 pub data RestrictionFault {F X : Type 0} (spells : Order → ℕ → X → List ℕ → Type 0)
     (good : X → Bool) (bad : X → At → F) (inner : At → F → Type 0) (a : At) (f : F) : Type 0 where
   unread : inner a f → RestrictionFault spells good bad inner a f
-  unfit : (x : X) (next : At) → Found spells a x next → good x ≡ false → f ≡ bad x a
+  unfit : (x : X) (next : At) → FoundSpelling spells a x next → good x ≡ false → f ≡ bad x a
       → RestrictionFault spells good bad inner a f
 
 -- no value, or one that stands for nothing
 pub data PartialFault {F X Y : Type 0} (spells : Order → ℕ → X → List ℕ → Type 0)
     (to : X → Option Y) (bad : X → At → F) (inner : At → F → Type 0) (a : At) (f : F) : Type 0 where
   unread : inner a f → PartialFault spells to bad inner a f
-  unknown : (x : X) (next : At) → Found spells a x next → to x ≡ None → f ≡ bad x a
+  unknown : (x : X) (next : At) → FoundSpelling spells a x next → to x ≡ None → f ≡ bad x a
       → PartialFault spells to bad inner a f
 
 -- of so many values one is none, at the place where those before it end
@@ -40,7 +40,7 @@ pub record ArrayFault {F X : Type 0} (g : Format F X) (inner : At → F → Type
   pub before : List X
   pub next : At
   pub fewer : length before < count
-  pub found : Found (array_format g (length before)).spells a before next
+  pub found : FoundSpelling (array_format g (length before)).spells a before next
   pub holds : inner next f
 
 -- no number, or one of so many values behind it is none

@@ -12,9 +12,10 @@ use Rattle.td_cdr.specs.Truth.{truth}
 use Rattle.td_cdr.specs.Text.{text_of, has_nul, HasNoNul, ends_in_nul, front}
 use Rattle.td_cdr.specs.Gap.{gap}
 use Rattle.td_cdr.specs.Place.{At}
-use Rattle.td_cdr.specs.Reading.{after, aligned, number, ◌>>=◌, number_at, signed_at, boolean_at, octets_at, string_at}
+use Rattle.td_cdr.specs.Reading.{after, next_aligned, number, ◌>>=◌, number_at, signed_at, boolean_at, octets_at}
+use Rattle.td_cdr.specs.Reading.{string_at}
 use Rattle.td_cdr.specs.Spelling.{SpellsSigned, SpellsBoolean, SpellsString, IsText, closed, absent, SpellsThen, IsFlag}
-use Rattle.td_cdr.specs.Spelling.{Found, Joins}
+use Rattle.td_cdr.specs.Spelling.{FoundSpelling, Joins}
 use Rattle.td_cdr.specs.Items.{read_then}
 use Rattle.td_cdr.specs.Joined.{bind_ok, ok_is, number-found, number-only, octets-found, octets-only, moved-place}
 use Rattle.td_cdr.specs.Joined.{after-after, Found-then}
@@ -22,19 +23,19 @@ use Rattle.td_cdr.specs.Joined.{after-after, Found-then}
 -- ---- signed numbers
 
 signed-found : (width : Width) (size : ℕ) (a : At) (v : ℤ) (next : At) → signed_at width size a
-    ≡ Ok (v, next) → Found (SpellsSigned width size) a v next
+    ≡ Ok (v, next) → FoundSpelling (SpellsSigned width size) a v next
 unfolding signed_at
 signed-found width size a v next e =
     let made : ℤ × At = (v, next) in
     let n = bind_ok (number_at size a) (λ n. Ok (cast_signed width n.0, n.1)) made e in
     let f = number-found size a n.0.0 n.0.1 n.1 in
-    let here : Found (SpellsSigned width size) a (cast_signed width n.0.0) n.0.1 = record {
+    let here : FoundSpelling (SpellsSigned width size) a (cast_signed width n.0.0) n.0.1 = record {
       bytes = f.bytes;
       spelled = record { long = f.spelled.long; value = ap (cast_signed width) f.spelled.value };
       parts = f.parts;
       moved = f.moved;
     } in
-    subst (λ (p : ℤ × At). Found (SpellsSigned width size) a p.0 p.1)
+    subst (λ (p : ℤ × At). FoundSpelling (SpellsSigned width size) a p.0 p.1)
     (ok_is (cast_signed width n.0.0, n.0.1) made n.2) here
 
 signed-only : (width : Width) (size : ℕ) (a : At) (v : ℤ) (b rest : List ℕ)
@@ -61,28 +62,29 @@ truth-found place (suc zero) b e = subst (λ (x : Bool). IsFlag x 1) (ok_is true
 truth-found place (suc (suc n)) b e = absurd cc
 
 pub truth-only : (place n : ℕ) (b : Bool) → IsFlag b n → truth place n ≡ Ok b
-truth-only place n false told = rw told refl
-truth-only place n true told = rw told refl
+truth-only place n false content = rw content refl
+truth-only place n true content = rw content refl
 
 boolean-found : (a : At) (v : Bool) (next : At) → boolean_at a ≡ Ok (v, next)
-    → Found SpellsBoolean a v next
+    → FoundSpelling SpellsBoolean a v next
 unfolding boolean_at
 boolean-found a v next e =
     let made : Bool × At = (v, next) in
     let n = bind_ok (number_at 1 a) (λ n. truth a.place n.0 >>= λ b. Ok (b, n.1)) made e in
     let t = bind_ok (truth a.place n.0.0) (λ b. Ok (b, n.0.1)) made n.2 in
     let f = number-found 1 a n.0.0 n.0.1 n.1 in
-    let here : Found SpellsBoolean a t.0 n.0.1 = record {
+    let here : FoundSpelling SpellsBoolean a t.0 n.0.1 = record {
       bytes = f.bytes;
       spelled = record {
         flag = n.0.0;
-        told = truth-found a.place n.0.0 t.0 t.1;
+        content = truth-found a.place n.0.0 t.0 t.1;
         octet = f.spelled;
       };
       parts = f.parts;
       moved = f.moved;
     } in
-    subst (λ (p : Bool × At). Found SpellsBoolean a p.0 p.1) (ok_is (t.0, n.0.1) made t.2) here
+    subst (λ (p : Bool × At). FoundSpelling SpellsBoolean a p.0 p.1) (ok_is (t.0, n.0.1) made t.2)
+    here
 
 boolean-only : (a : At) (v : Bool) (b rest : List ℕ)
     → SpellsBoolean a.order (a.place - a.origin) v b
@@ -90,7 +92,7 @@ boolean-only : (a : At) (v : Bool) (b rest : List ℕ)
 unfolding boolean_at
 boolean-only a v b rest s e =
     let one = number-only 1 a s.flag b rest s.octet e in
-    let two = truth-only a.place s.flag v s.told in
+    let two = truth-only a.place s.flag v s.content in
     rw (one, two) refl
 
 pub boolean-joins : Joins SpellsBoolean boolean_at
@@ -164,25 +166,26 @@ text-only place kept text (closed free is) = rw is (text_of-closed place text fr
 text-only place kept text (absent none is) = rw (is, none) refl
 
 string-found : (a : At) (v : List ℕ) (next : At) → a.origin ≤ a.place → string_at a ≡ Ok (v, next)
-    → Found SpellsString a v next
+    → FoundSpelling SpellsString a v next
 unfolding string_at
 string-found a v next h e =
     let made : List ℕ × At = (v, next) in
     let o = bind_ok (octets_at a)
-    (λ bytes. text_of (aligned 4 a) bytes.0 >>= λ text. Ok (text, bytes.1)) made e in
-    let t = bind_ok (text_of (aligned 4 a) o.0.0) (λ text. Ok (text, o.0.1)) made o.2 in
+    (λ bytes. text_of (next_aligned 4 a) bytes.0 >>= λ text. Ok (text, bytes.1)) made e in
+    let t = bind_ok (text_of (next_aligned 4 a) o.0.0) (λ text. Ok (text, o.0.1)) made o.2 in
     let f = octets-found a o.0.0 o.0.1 h o.1 in
-    let here : Found SpellsString a t.0 o.0.1 = record {
+    let here : FoundSpelling SpellsString a t.0 o.0.1 = record {
       bytes = f.bytes;
       spelled = record {
         kept = o.0.0;
-        text = text-found (aligned 4 a) o.0.0 t.0 t.1;
+        text = text-found (next_aligned 4 a) o.0.0 t.0 t.1;
         octets = f.spelled;
       };
       parts = f.parts;
       moved = f.moved;
     } in
-    subst (λ (p : List ℕ × At). Found SpellsString a p.0 p.1) (ok_is (t.0, o.0.1) made t.2) here
+    subst (λ (p : List ℕ × At). FoundSpelling SpellsString a p.0 p.1) (ok_is (t.0, o.0.1) made t.2)
+    here
 
 string-only : (a : At) (v b rest : List ℕ) → a.origin ≤ a.place
     → SpellsString a.order (a.place - a.origin) v b
@@ -190,7 +193,7 @@ string-only : (a : At) (v b rest : List ℕ) → a.origin ≤ a.place
 unfolding string_at
 string-only a v b rest h s e =
     let one = octets-only a s.kept b rest h s.octets e in
-    let two = text-only (aligned 4 a) s.kept v s.text in
+    let two = text-only (next_aligned 4 a) s.kept v s.text in
     rw (one, two) refl
 
 pub string-joins : Joins SpellsString string_at
@@ -204,7 +207,7 @@ module _ {X Y : Type 0} (first : Order → ℕ → X → List ℕ → Type 0)
   then-found : Joins first read_first → ((x : X) → Joins (second x) (read_second x))
       → (a : At) (v : X × Y) (next : At)
       → a.origin ≤ a.place → read_then read_first read_second a ≡ Ok (v, next)
-      → Found (SpellsThen first second) a v next
+      → FoundSpelling (SpellsThen first second) a v next
   then-found j k a v next h e =
       let made : (X × Y) × At = (v, next) in
       let x = bind_ok (read_first a) (λ v. read_second v.0 v.1 >>= λ w. Ok ((v.0, w.0), w.1))
@@ -214,7 +217,7 @@ module _ {X Y : Type 0} (first : Order → ℕ → X → List ℕ → Type 0)
       let on : x.0.1.origin ≤ x.0.1.place = rw f.moved (omega arith) in
       let g = (k x.0.0).found x.0.1 y.0.0 y.0.1 on y.1 in
       let here = Found-then first second a x.0.1 y.0.1 x.0.0 y.0.0 h f g in
-      subst (λ (p : (X × Y) × At). Found (SpellsThen first second) a p.0 p.1)
+      subst (λ (p : (X × Y) × At). FoundSpelling (SpellsThen first second) a p.0 p.1)
       (ok_is ((x.0.0, y.0.0), y.0.1) made y.2) here
 
   then-only : Joins first read_first → ((x : X) → Joins (second x) (read_second x))

@@ -10,9 +10,9 @@ use Rattle.td_cdr.specs.declared.fault.CdrFault.TheVariants.{Short, TooLong}
 use Rattle.td_cdr.specs.Truth.{order_of}
 use Rattle.td_cdr.specs.Gap.{gap, bytes_of}
 use Rattle.td_cdr.specs.Place.{At}
-use Rattle.td_cdr.specs.Reading.{after, padding, aligned, number, ◌>>=◌, cell_at, number_at, octets_at}
+use Rattle.td_cdr.specs.Reading.{after, padding, next_aligned, number, ◌>>=◌, cell_at, number_at, octets_at}
 use Rattle.td_cdr.specs.Reading.{encapsulation_at, inside, within}
-use Rattle.td_cdr.specs.Spelling.{SpellsNumber, SpellsThen, SpellsOctets, SpellsWithin, IsFlag, Found, Joins}
+use Rattle.td_cdr.specs.Spelling.{SpellsNumber, SpellsThen, SpellsOctets, SpellsWithin, IsFlag, FoundSpelling, Joins}
 use Rattle.byteorder.specs.Numbers.{big_number-reads_back, little_number-reads_back}
 use Rattle.byteorder.specs.Numbers.{length-bytes_high_first, length-bytes_low_first}
 use Rattle.td_cdr.specs.Writing.{written_number, written_octets}
@@ -35,13 +35,13 @@ pub ok_is : {F A : Type 0} (x y : A) → done {F = F} x ≡ done y → x ≡ y
 ok_is x y e = cc
 
 pub number-found : (size : ℕ) (a : At) (v : ℕ) (next : At) → number_at size a ≡ Ok (v, next)
-    → Found (SpellsNumber size) a v next
+    → FoundSpelling (SpellsNumber size) a v next
 unfolding number_at cell_at
 number-found size a v next e =
     let p = padding size a in
     let cell = bind_ok (cell_at size a) (λ c. Ok (number a.order size c.0, c.1)) (v, next) e in
     let g =
-    guard_ok (ltb (length a.rest) (p + size)) (Short (aligned size a))
+    guard_ok (ltb (length a.rest) (p + size)) (Short (next_aligned size a))
     (take size (drop p a.rest), after (p + size) a) cell.0 cell.1 in
     let fits : p + size ≤ length a.rest = ltb-false _ _ g.0 in
     let len : length (take (p + size) a.rest)
@@ -90,8 +90,8 @@ after-after m n a = rw (drop-drop, add_assoc) refl
 
 pub Found-then : {X Y : Type 0} (first : Order → ℕ → X → List ℕ → Type 0)
     (second : X → Order → ℕ → Y → List ℕ → Type 0) (a b c : At) (x : X) (y : Y)
-    → a.origin ≤ a.place → Found first a x b → Found (second x) b y c
-    → Found (SpellsThen first second) a (x, y) c
+    → a.origin ≤ a.place → FoundSpelling first a x b → FoundSpelling (second x) b y c
+    → FoundSpelling (SpellsThen first second) a (x, y) c
 Found-then first second a b c x y h f g =
     let place-is : b.place - b.origin ≡ (a.place - a.origin)
     + length f.bytes = rw f.moved (omega arith) in
@@ -118,7 +118,8 @@ Found-then first second a b c x y h f g =
 -- ---- octets
 
 octets-made : (a : At) (count : ℕ) (b : At) → count ≤ length b.rest
-    → Found (SpellsNumber 4) a count b → Found SpellsOctets a (take count b.rest) (after count b)
+    → FoundSpelling (SpellsNumber 4) a count b → FoundSpelling SpellsOctets a (take count b.rest)
+    (after count b)
 octets-made a count b fits f =
     let len : length (take count b.rest) ≡ count = omega (arith, length-take count b.rest) in
     record {
@@ -133,18 +134,18 @@ octets-made a count b fits f =
     }
 
 pub octets-found : (a : At) (v : List ℕ) (next : At) → a.origin ≤ a.place
-    → octets_at a ≡ Ok (v, next) → Found SpellsOctets a v next
+    → octets_at a ≡ Ok (v, next) → FoundSpelling SpellsOctets a v next
 unfolding octets_at
 octets-found a v next h e =
     let n =
     bind_ok (number_at 4 a) (λ n.
-    cond (ltb (length n.1.rest) n.0) (Err (TooLong (aligned 4 a)))
+    cond (ltb (length n.1.rest) n.0) (Err (TooLong (next_aligned 4 a)))
     (Ok (take n.0 n.1.rest, after n.0 n.1))) (v, next) e in
     let made : List ℕ × At = (v, next) in
     let g =
-    guard_ok (ltb (length n.0.1.rest) n.0.0) (TooLong (aligned 4 a))
+    guard_ok (ltb (length n.0.1.rest) n.0.0) (TooLong (next_aligned 4 a))
     (take n.0.0 n.0.1.rest, after n.0.0 n.0.1) made n.2 in
-    subst (λ (p : List ℕ × At). Found SpellsOctets a p.0 p.1) g.1
+    subst (λ (p : List ℕ × At). FoundSpelling SpellsOctets a p.0 p.1) g.1
     (octets-made a n.0.0 n.0.1 (ltb-false _ _ g.0) (number-found 4 a n.0.0 n.0.1 n.1))
 
 pub octets-only : (a : At) (v b rest : List ℕ) → a.origin ≤ a.place
@@ -173,7 +174,7 @@ octets-joins = record { found = octets-found; only = octets-only }
 pub record IsInside (end : ℕ) (octets : List ℕ) (inner : At) : Type 0 where
   pub little : Bool
   pub flag : ℕ
-  pub told : IsFlag little flag
+  pub content : IsFlag little flag
   pub parts : octets ≡ flag ∷ inner.rest
   pub order_is : inner.order ≡ order_of little
   pub place_is : inner.place ≡ suc inner.origin
@@ -191,7 +192,7 @@ inside-found short end (zero ∷ bs) inner le e =
     }) inner e) (record {
       little = false;
       flag = 0;
-      told = refl;
+      content = refl;
       parts = refl;
       order_is = refl;
       place_is = omega arith;
@@ -207,7 +208,7 @@ inside-found short end (suc zero ∷ bs) inner le e =
     (record {
       little = true;
       flag = 1;
-      told = refl;
+      content = refl;
       parts = refl;
       order_is = refl;
       place_is = omega arith;
@@ -222,13 +223,13 @@ pub inside-only : (short end flag : ℕ) (little : Bool) (bs : List ℕ) → IsF
       origin = end - suc (length bs);
       order = order_of little;
     })
-inside-only short end flag false bs told = rw told refl
-inside-only short end flag true bs told = rw told refl
+inside-only short end flag false bs content = rw content refl
+inside-only short end flag true bs content = rw content refl
 
 pub within-made : {Y : Type 0} (inner : Order → ℕ → Y → List ℕ → Type 0) (a b x y : At)
     (octets : List ℕ) (v : Y)
-    → Found SpellsOctets a octets b → IsInside b.place octets x → Found inner x v y
-    → Found (SpellsWithin inner) a v b
+    → FoundSpelling SpellsOctets a octets b → IsInside b.place octets x → FoundSpelling inner x v y
+    → FoundSpelling (SpellsWithin inner) a v b
 within-made inner a b x y octets v f i g =
     let one : x.place - x.origin ≡ 1 = omega (arith, i.place_is) in
     let spelled-in : inner (order_of i.little) 1 v g.bytes = rw (← i.order_is, ← one) g.spelled in
@@ -245,7 +246,7 @@ within-made inner a b x y octets v f i g =
             flag = i.flag;
             body = g.bytes;
             ignored = y.rest;
-            order_told = i.told;
+            order_of_flag = i.content;
             octets = spelled-out;
             spelled = spelled-in;
           };
@@ -256,16 +257,16 @@ within-made inner a b x y octets v f i g =
 within-found : {Y : Type 0} (inner : Order → ℕ → Y → List ℕ → Type 0)
     (reading : At → Result (Y × At) CdrFault)
     → Joins inner reading → (a : At) (v : Y) (next : At) → a.origin ≤ a.place → within reading a
-    ≡ Ok (v, next) → Found (SpellsWithin inner) a v next
+    ≡ Ok (v, next) → FoundSpelling (SpellsWithin inner) a v next
 unfolding encapsulation_at
 within-found {Y = Y} inner reading j a v next h e =
     let made : Y × At = (v, next) in
     let enc = bind_ok (encapsulation_at a) (λ e. reading e.0 >>= λ v. Ok (v.0, e.1)) made e in
     let val = bind_ok (reading enc.0.0) (λ v. Ok (v.0, enc.0.1)) made enc.2 in
     let oct =
-    bind_ok (octets_at a) (λ bytes. inside (aligned 4 a) bytes.1.place bytes.0 >>= λ inner.
+    bind_ok (octets_at a) (λ bytes. inside (next_aligned 4 a) bytes.1.place bytes.0 >>= λ inner.
     Ok (inner, bytes.1)) enc.0 enc.1 in
-    let ins = bind_ok (inside (aligned 4 a) oct.0.1.place oct.0.0)
+    let ins = bind_ok (inside (next_aligned 4 a) oct.0.1.place oct.0.0)
     (λ inner. Ok (inner, oct.0.1)) enc.0 oct.2 in
     let enc-is : (ins.0, oct.0.1) ≡ enc.0 = ok_is (ins.0, oct.0.1) enc.0 ins.2 in
     let f = octets-found a oct.0.0 oct.0.1 h oct.1 in
@@ -276,15 +277,15 @@ within-found {Y = Y} inner reading j a v next h e =
       ap (length {A = ℕ}) f.spelled.parts,
       length-append f.spelled.count oct.0.0,
     ) in
-    let i = inside-found (aligned 4 a) oct.0.1.place oct.0.0 ins.0 within-end ins.1 in
+    let i = inside-found (next_aligned 4 a) oct.0.1.place oct.0.0 ins.0 within-end ins.1 in
     let val-at : reading ins.0 ≡ Ok val.0 = ap (λ (p : At × At). reading p.0) enc-is ∙ val.1 in
     let g = j.found ins.0 val.0.0 val.0.1 (omega (arith, i.place_is)) val-at in
     let last : (val.0.0, oct.0.1) ≡ made =
     ◌∙◌ {b = (val.0.0, enc.0.1)} (ap (λ (p : At × At). (val.0.0, p.1)) enc-is)
     (ok_is (val.0.0, enc.0.1) made val.2) in
-    let here : Found (SpellsWithin inner) a val.0.0 oct.0.1 =
+    let here : FoundSpelling (SpellsWithin inner) a val.0.0 oct.0.1 =
     within-made inner a oct.0.1 ins.0 val.0.1 oct.0.0 val.0.0 f i g in
-    subst (λ (p : Y × At). Found (SpellsWithin inner) a p.0 p.1) last here
+    subst (λ (p : Y × At). FoundSpelling (SpellsWithin inner) a p.0 p.1) last here
 
 within-only : {Y : Type 0} (inner : Order → ℕ → Y → List ℕ → Type 0)
     (reading : At → Result (Y × At) CdrFault)
@@ -296,7 +297,7 @@ within-only {Y = Y} inner reading j a v b rest h s e =
     let body = s.body ++ s.ignored in
     let end = a.place + length b in
     let one = octets-only a (s.flag ∷ body) b rest h s.octets e in
-    let two = inside-only (aligned 4 a) end s.flag s.little body s.order_told in
+    let two = inside-only (next_aligned 4 a) end s.flag s.little body s.order_of_flag in
     let long : length b ≡ length s.octets.count + suc (length body) =
     ap (length {A = ℕ}) s.octets.parts ∙ length-append s.octets.count (s.flag ∷ body) in
     let origin : (end - length body) - (end - suc (length body)) ≡ 1 = omega (arith, long) in

@@ -3,7 +3,7 @@ use Rattle.std.specs.Prelude.{◌≡◌, ℕ, ◌-◌, ◌^◌, ◌<◌, ◌≤�
 use Rattle.td_cdr.specs.declared.order.Order.{Order}
 use Rattle.td_cdr.specs.Place.{At}
 use Rattle.td_cdr.specs.Reading.{after}
-use Rattle.td_cdr.specs.Spelling.{Found}
+use Rattle.td_cdr.specs.Spelling.{FoundSpelling}
 use Rattle.td_cdr.specs.Format.{Format}
 
 -- each is the number of an octet
@@ -14,7 +14,7 @@ pub record AreOctets (b : List ℕ) : Type 0 where
 -- admitted; what is written for an admitted value spells it.
 pub record Lawful {F Y : Type 0} (f : Format F Y) : Type 0 where
   pub found : (a : At) (v : Y) (next : At) → a.origin ≤ a.place → f.reads a ≡ Ok (v, next)
-      → Found f.spells a v next
+      → FoundSpelling f.spells a v next
   pub only : (a : At) (v : Y) (b rest : List ℕ) → a.origin ≤ a.place
       → f.spells a.order (a.place - a.origin) v b
       → a.rest ≡ b ++ rest → f.reads a ≡ Ok (v, after (length b) a)

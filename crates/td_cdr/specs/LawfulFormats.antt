@@ -14,8 +14,8 @@ use Rattle.td_cdr.specs.declared.fault.CdrFault.{CdrFault}
 use Rattle.td_cdr.specs.Gap.{flag}
 use Rattle.td_cdr.specs.Place.{At}
 use Rattle.td_cdr.specs.Truth.{order_of}
-use Rattle.td_cdr.specs.Reading.{after, aligned, octets_at, encapsulation_at, inside as inside_of}
-use Rattle.td_cdr.specs.Spelling.{Found, SpellsThen, SpellsWithin, SpellsOctets, IsText, closed, absent}
+use Rattle.td_cdr.specs.Reading.{after, next_aligned, octets_at, encapsulation_at, inside as inside_of}
+use Rattle.td_cdr.specs.Spelling.{FoundSpelling, SpellsThen, SpellsWithin, SpellsOctets, IsText, closed, absent}
 use Rattle.td_cdr.specs.Text.{HasNoNul}
 use Rattle.td_cdr.specs.Writing.{written_number, written_octets}
 use Rattle.td_cdr.specs.Joined.{number-joins, octets-joins, octets-found, octets-only, Found-then, moved-place}
@@ -46,7 +46,7 @@ check_is true d x t = refl
 check_is false d x t = absurd cc
 
 later : {Y : Type 0} (spells : Order → ℕ → Y → List ℕ → Type 0) (a : At) (v : Y) (b : At)
-    → Found spells a v b → a.origin ≤ a.place → b.origin ≤ b.place
+    → FoundSpelling spells a v b → a.origin ≤ a.place → b.origin ≤ b.place
 later spells a v b f h = rw f.moved (omega arith)
 
 -- ---- the primitives
@@ -134,7 +134,8 @@ other_writing-lawful w g l same = record {
 two-found : {F X Y : Type 0} (first : Format F X) (second : X → Format F Y) → Lawful first
     → ((x : X) → Lawful (second x)) → (a : At) (x : X × At) (y : Y × At) → a.origin ≤ a.place
     → first.reads a ≡ Ok x
-    → (second x.0).reads x.1 ≡ Ok y → Found (dependent_pair first second).spells a (x.0, y.0) y.1
+    → (second x.0).reads x.1 ≡ Ok y → FoundSpelling (dependent_pair first second).spells a
+    (x.0, y.0) y.1
 two-found first second j k a x y h e d =
     let f = j.found a x.0 x.1 h e in
     let g = (k x.0).found x.1 y.0 y.1 (later first.spells a x.0 x.1 f h) d in
@@ -200,13 +201,13 @@ both-written first second j k order place v ok short =
 pair_on-found : {F X Y : Type 0} (first : Format F X) (second : X → Format F Y) → Lawful first
     → ((x : X) → Lawful (second x)) → (a : At) (v : X × Y) (next : At) → a.origin ≤ a.place
     → (dependent_pair first second).reads a ≡ Ok (v, next)
-    → Found (dependent_pair first second).spells a v next
+    → FoundSpelling (dependent_pair first second).spells a v next
 pair_on-found {X = X} {Y = Y} first second j k a v next h e =
     let made-it : (X × Y) × At = (v, next) in
     let x = bind_ok (first.reads a) (λ x. (second x.0).reads x.1 >>= λ y. Ok ((x.0, y.0), y.1))
     made-it e in
     let y = bind_ok ((second x.0.0).reads x.0.1) (λ y. Ok ((x.0.0, y.0), y.1)) made-it x.2 in
-    subst (λ (p : (X × Y) × At). Found (dependent_pair first second).spells a p.0 p.1)
+    subst (λ (p : (X × Y) × At). FoundSpelling (dependent_pair first second).spells a p.0 p.1)
     (ok_is ((x.0.0, y.0.0), y.0.1) made-it y.2) (two-found first second j k a x.0 y.0 h x.1 y.1)
 
 pub dependent_pair-lawful : {F X Y : Type 0} (first : Format F X) (second : X → Format F Y)
@@ -229,13 +230,13 @@ tagged-found : {F K Y : Type 0} (tag : Format F K) (tag_of : Y → K) (arm : K �
     → ((k : K) (order : Order) (place : ℕ) (y : Y) (b : List ℕ) → (arm k).spells order place y b
     → k ≡ tag_of y)
     → (a : At) (v : Y) (next : At) → a.origin ≤ a.place → (union_format tag tag_of arm).reads a
-    ≡ Ok (v, next) → Found (union_format tag tag_of arm).spells a v next
-tagged-found {K = K} {Y = Y} tag tag_of arm j k told a v next h e =
+    ≡ Ok (v, next) → FoundSpelling (union_format tag tag_of arm).spells a v next
+tagged-found {K = K} {Y = Y} tag tag_of arm j k content a v next h e =
     let made-it : Y × At = (v, next) in
     let x = bind_ok (tag.reads a) (λ x. (arm x.0).reads x.1) made-it e in
     let here = two-found tag arm j k a x.0 made-it h x.1 x.2 in
     let is : x.0.0 ≡ tag_of v =
-    told x.0.0 a.order ((a.place - a.origin) + length here.spelled.front) v here.spelled.back
+    content x.0.0 a.order ((a.place - a.origin) + length here.spelled.front) v here.spelled.back
     here.spelled.then_spelled in
     record {
       bytes = here.bytes;
@@ -252,8 +253,8 @@ pub union_format-lawful : {F K Y : Type 0} (tag : Format F K) (tag_of : Y → K)
     → ((k : K) → Lawful (arm k))
     → ((k : K) (order : Order) (place : ℕ) (y : Y) (b : List ℕ) → (arm k).spells order place y b
     → k ≡ tag_of y) → Lawful (union_format tag tag_of arm)
-union_format-lawful tag tag_of arm j k told = record {
-  found = tagged-found tag tag_of arm j k told;
+union_format-lawful tag tag_of arm j k content = record {
+  found = tagged-found tag tag_of arm j k content;
   only = λ a v b rest h s e. let t = two-only tag arm j k a (tag_of v, v) b rest h s e in rw
       (t.1, t.2) refl;
   admitted = λ order place v b o s. both-admitted tag arm j k order place (tag_of v, v) b o s;
@@ -263,12 +264,12 @@ union_format-lawful tag tag_of arm j k told = record {
 made-found : {F X Y : Type 0} (to : X → Y) (from : Y → X) (g : Format F X) → Lawful g
     → ((x : X) → from (to x) ≡ x)
     → (a : At) (v : Y) (next : At) → a.origin ≤ a.place → (structure_format to from g).reads a
-    ≡ Ok (v, next) → Found (structure_format to from g).spells a v next
+    ≡ Ok (v, next) → FoundSpelling (structure_format to from g).spells a v next
 made-found {X = X} {Y = Y} to from g l back a v next h e =
     let made-it : Y × At = (v, next) in
     let x = bind_ok (g.reads a) (λ x. Ok (to x.0, x.1)) made-it e in
     let w = l.found a x.0.0 x.0.1 h x.1 in
-    let here : Found (structure_format to from g).spells a (to x.0.0) x.0.1 =
+    let here : FoundSpelling (structure_format to from g).spells a (to x.0.0) x.0.1 =
     record {
       bytes = w.bytes;
       spelled = subst (λ (z : X). g.spells a.order (a.place - a.origin) z w.bytes)
@@ -276,7 +277,7 @@ made-found {X = X} {Y = Y} to from g l back a v next h e =
       parts = w.parts;
       moved = w.moved;
     } in
-    subst (λ (p : Y × At). Found (structure_format to from g).spells a p.0 p.1)
+    subst (λ (p : Y × At). FoundSpelling (structure_format to from g).spells a p.0 p.1)
     (ok_is (to x.0.0, x.0.1) made-it x.2) here
 
 pub structure_format-lawful : {F X Y : Type 0} (to : X → Y) (from : Y → X) (g : Format F X)
@@ -293,12 +294,12 @@ structure_format-lawful {F = F} {Y = Y} to from g back forth l = record {
 
 variant-found : {F X Y : Type 0} (to : X → Y) (from : Y → Option X) (g : Format F X) → Lawful g
     → (a : At) (v : Y) (next : At) → a.origin ≤ a.place → (variant_format to from g).reads a
-    ≡ Ok (v, next) → Found (variant_format to from g).spells a v next
+    ≡ Ok (v, next) → FoundSpelling (variant_format to from g).spells a v next
 variant-found {X = X} {Y = Y} to from g l a v next h e =
     let made-it : Y × At = (v, next) in
     let x = bind_ok (g.reads a) (λ x. Ok (to x.0, x.1)) made-it e in
     let w = l.found a x.0.0 x.0.1 h x.1 in
-    subst (λ (p : Y × At). Found (variant_format to from g).spells a p.0 p.1)
+    subst (λ (p : Y × At). FoundSpelling (variant_format to from g).spells a p.0 p.1)
     (ok_is (to x.0.0, x.0.1) made-it x.2)
     (record {
       bytes = w.bytes;
@@ -339,7 +340,8 @@ after-zero a =
 pub constant_format-lawful : {F X : Type 0} (x : X) → Lawful (constant_format {F = F} x)
 constant_format-lawful {F = F} {X = X} x = record {
   found =
-      λ a v next h e. subst (λ (p : X × At). Found (constant_format {F = F} x).spells a p.0 p.1)
+      λ a v next h e. subst (λ (p : X × At). FoundSpelling (constant_format {F = F} x).spells a p.0
+      p.1)
       (ok_is {F = F} (x, a) (v, next) e)
       (record { bytes = []; spelled = (refl, refl); parts = refl; moved = sym (after-zero a) });
   only = λ a v b rest h s e. rw (s.1, after-zero a) (ap (λ (y : X). done {F = F} (y, a)) s.0);
@@ -350,13 +352,13 @@ constant_format-lawful {F = F} {X = X} x = record {
 skipped-found : {F X : Type 0} (x : X) (g : Format F X) → Lawful g → (a : At) (v : Unit {0})
     (next : At)
     → a.origin ≤ a.place → (placeholder_format x g).reads a ≡ Ok (v, next)
-    → Found (placeholder_format x g).spells a v next
+    → FoundSpelling (placeholder_format x g).spells a v next
 skipped-found {F = F} x g l a v next h e =
     let made-it : Unit {0} × At = (v, next) in
     let y = bind_ok (g.reads a) (λ v. Ok (tt, v.1)) made-it e in
     let w = l.found a y.0.0 y.0.1 h y.1 in
     let is : y.0.1 ≡ next = ap (λ p. p.1) (ok_is {F = F} (tt, y.0.1) made-it y.2) in
-    subst (λ (n : At). Found (placeholder_format x g).spells a v n) is
+    subst (λ (n : At). FoundSpelling (placeholder_format x g).spells a v n) is
     (record { bytes = w.bytes; spelled = (y.0.0, w.spelled); parts = w.parts; moved = w.moved })
 
 pub placeholder_format-lawful : {F X : Type 0} (x : X) (g : Format F X) → g.admits x → Lawful g
@@ -378,13 +380,13 @@ failure_format-lawful bad = record {
 
 checked-found : {F X : Type 0} (ok : X → Bool) (bad : X → At → F) (g : Format F X) → Lawful g
     → (a : At) (v : X) (next : At) → a.origin ≤ a.place → (restriction_format ok bad g).reads a
-    ≡ Ok (v, next) → Found (restriction_format ok bad g).spells a v next
+    ≡ Ok (v, next) → FoundSpelling (restriction_format ok bad g).spells a v next
 checked-found {X = X} ok bad g l a v next h e =
     let made-it : X × At = (v, next) in
     let x = bind_ok (g.reads a) (λ x. cond (ok x.0) (Ok x) (Err (bad x.0 a))) made-it e in
     let c = check_ok (ok x.0.0) (bad x.0.0 a) x.0 made-it x.2 in
     let w = l.found a x.0.0 x.0.1 h x.1 in
-    subst (λ (p : X × At). Found (restriction_format ok bad g).spells a p.0 p.1) c.1
+    subst (λ (p : X × At). FoundSpelling (restriction_format ok bad g).spells a p.0 p.1) c.1
     (record { bytes = w.bytes; spelled = (c.0, w.spelled); parts = w.parts; moved = w.moved })
 
 pub restriction_format-lawful : {F X : Type 0} (ok : X → Bool) (bad : X → At → F) (g : Format F X)
@@ -408,7 +410,7 @@ refined-found : {F X Y : Type 0} (to : X → Option Y) (from : Y → X) (bad : X
     → ((x : X) (y : Y) → to x ≡ Some y → from y ≡ x) → (a : At) (v : Y) (next : At)
     → a.origin ≤ a.place
     → (partial_format to from bad g).reads a ≡ Ok (v, next)
-    → Found (partial_format to from bad g).spells a v next
+    → FoundSpelling (partial_format to from bad g).spells a v next
 refined-found {X = X} {Y = Y} to from bad g l back a v next h e =
     let x = bind_ok (g.reads a) (λ x. or_fault (to x.0) (bad x.0 a) x.1) (v, next) e in
     let t = refined_ok (to x.0.0) (bad x.0.0 a) x.0.1 (v, next) x.2 in
@@ -471,7 +473,7 @@ value_named-name name_of (l ∷ ks) name k h =
 inside-finds : {F Y : Type 0} (c : CdrFault → F) (g : Format F Y) → Lawful g
     → (a : At) (v : Y) (next : At)
     → a.origin ≤ a.place → (encapsulation_format c g).reads a ≡ Ok (v, next)
-    → Found (encapsulation_format c g).spells a v next
+    → FoundSpelling (encapsulation_format c g).spells a v next
 unfolding encapsulation_at
 inside-finds {Y = Y} c g l a v next h e =
     let made-it : Y × At = (v, next) in
@@ -480,9 +482,10 @@ inside-finds {Y = Y} c g l a v next h e =
     let val = bind_ok (g.reads enc.0.0) (λ v. Ok (v.0, enc.0.1)) made-it enc.2 in
     let oct =
     bind_ok (octets_at a)
-    (λ bytes. inside_of (aligned 4 a) bytes.1.place bytes.0 >>= λ inner. Ok (inner, bytes.1)) enc.0
+    (λ bytes. inside_of (next_aligned 4 a) bytes.1.place bytes.0 >>= λ inner. Ok (inner, bytes.1))
+    enc.0
     (fault_ok c _ enc.0 enc.1) in
-    let ins = bind_ok (inside_of (aligned 4 a) oct.0.1.place oct.0.0)
+    let ins = bind_ok (inside_of (next_aligned 4 a) oct.0.1.place oct.0.0)
     (λ inner. Ok (inner, oct.0.1)) enc.0 oct.2 in
     let enc-is : (ins.0, oct.0.1) ≡ enc.0 = ok_is (ins.0, oct.0.1) enc.0 ins.2 in
     let f = octets-found a oct.0.0 oct.0.1 h oct.1 in
@@ -493,13 +496,13 @@ inside-finds {Y = Y} c g l a v next h e =
       ap (length {A = ℕ}) f.spelled.parts,
       length-append f.spelled.count oct.0.0,
     ) in
-    let i = inside-found (aligned 4 a) oct.0.1.place oct.0.0 ins.0 within-end ins.1 in
+    let i = inside-found (next_aligned 4 a) oct.0.1.place oct.0.0 ins.0 within-end ins.1 in
     let val-at : g.reads ins.0 ≡ Ok val.0 = ap (λ (p : At × At). g.reads p.0) enc-is ∙ val.1 in
     let w = l.found ins.0 val.0.0 val.0.1 (omega (arith, i.place_is)) val-at in
     let last : (val.0.0, oct.0.1) ≡ made-it =
     ◌∙◌ {b = (val.0.0, enc.0.1)} (ap (λ (p : At × At). (val.0.0, p.1)) enc-is)
     (ok_is (val.0.0, enc.0.1) made-it val.2) in
-    subst (λ (p : Y × At). Found (encapsulation_format c g).spells a p.0 p.1) last
+    subst (λ (p : Y × At). FoundSpelling (encapsulation_format c g).spells a p.0 p.1) last
     (within-made g.spells a oct.0.1 ins.0 val.0.1 oct.0.0 val.0.0 f i w)
 
 inside-only_reads : {F Y : Type 0} (c : CdrFault → F) (g : Format F Y) → Lawful g
@@ -511,7 +514,7 @@ inside-only_reads {Y = Y} c g l a v b rest h s e =
     let body = s.body ++ s.ignored in
     let end = a.place + length b in
     let one = octets-only a (s.flag ∷ body) b rest h s.octets e in
-    let two = inside-only (aligned 4 a) end s.flag s.little body s.order_told in
+    let two = inside-only (next_aligned 4 a) end s.flag s.little body s.order_of_flag in
     let long : length b ≡ length s.octets.count + suc (length body) =
     ap (length {A = ℕ}) s.octets.parts ∙ length-append s.octets.count (s.flag ∷ body) in
     let origin : (end - length body) - (end - suc (length body)) ≡ 1 = omega (arith, long) in
@@ -555,7 +558,7 @@ inside-written c g l Big place y ok short =
       flag = 0;
       body = g.writes y Big 1;
       ignored = [];
-      order_told = refl;
+      order_of_flag = refl;
       octets = enclosed-octets Big place (g.writes y Big 1) short;
       spelled = l.written Big 1 y ok (within-few Big place (g.writes y Big 1) short);
     }
@@ -565,7 +568,7 @@ inside-written c g l Little place y ok short =
       flag = 1;
       body = g.writes y Little 1;
       ignored = [];
-      order_told = refl;
+      order_of_flag = refl;
       octets = enclosed-octets Little place (g.writes y Little 1) short;
       spelled = l.written Little 1 y ok (within-few Little place (g.writes y Little 1) short);
     }

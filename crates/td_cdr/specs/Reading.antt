@@ -34,13 +34,13 @@ after n a = record a { rest = drop n a.rest; place = a.place + n }
 -- ---- reading: the value and where the reader then stands, or the first fault
 
 -- where the next primitive of this size stands; a place past the last that a u32 can name is that last one
-abbrev pub aligned : ℕ → At → ℕ
-aligned size a = min (a.place + padding size a) (2 ^ 32 - 1)
+abbrev pub next_aligned : ℕ → At → ℕ
+next_aligned size a = min (a.place + padding size a) (2 ^ 32 - 1)
 
 -- the bytes of a primitive, behind its padding
 unfoldable pub cell_at : ℕ → At → Result (List ℕ × At) CdrFault
 cell_at size a =
-    if nat_lt (length a.rest) (padding size a + size) then Err (Short (aligned size a))
+    if nat_lt (length a.rest) (padding size a + size) then Err (Short (next_aligned size a))
     else Ok (take size (drop (padding size a) a.rest), after (padding size a + size) a)
 
 -- Integer Data Types, Octet, Char: a number of so many bytes
@@ -66,14 +66,14 @@ boolean_at a = do
 unfoldable pub octets_at : At → Result (List ℕ × At) CdrFault
 octets_at a = do
   n ← number_at 4 a
-  if nat_lt (length n.1.rest) n.0 then Err (TooLong (aligned 4 a)) else Ok
+  if nat_lt (length n.1.rest) n.0 then Err (TooLong (next_aligned 4 a)) else Ok
       (take n.0 n.1.rest, after n.0 n.1)
 
 -- Strings and Wide Strings: bytes behind their number, the last a NUL
 unfoldable pub string_at : At → Result (List ℕ × At) CdrFault
 string_at a = do
   bytes ← octets_at a
-  text ← text_of (aligned 4 a) bytes.0
+  text ← text_of (next_aligned 4 a) bytes.0
   Ok (text, bytes.1)
 
 -- Encapsulation: a reader over octets that end at a place, the first of which tells the order. It counts alignment from
@@ -93,7 +93,7 @@ inside short end (flag ∷ bytes) = do
 unfoldable pub encapsulation_at : At → Result (At × At) CdrFault
 encapsulation_at a = do
   bytes ← octets_at a
-  inner ← inside (aligned 4 a) bytes.1.place bytes.0
+  inner ← inside (next_aligned 4 a) bytes.1.place bytes.0
   Ok (inner, bytes.1)
 
 -- a value inside an encapsulation

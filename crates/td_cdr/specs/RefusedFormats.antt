@@ -8,7 +8,7 @@ use Rattle.td_cdr.specs.declared.order.Order.{Order}
 use Rattle.td_cdr.specs.declared.fault.CdrFault.{CdrFault}
 use Rattle.td_cdr.specs.Place.{At}
 use Rattle.td_cdr.specs.Reading.{after}
-use Rattle.td_cdr.specs.Spelling.{SpellsThen, Found, Joins}
+use Rattle.td_cdr.specs.Spelling.{SpellsThen, FoundSpelling, Joins}
 use Rattle.td_cdr.specs.Faults.{NumberFault, OuterFault, WithinFault, ThenFault, Refuses}
 use Rattle.td_cdr.specs.Format.{◌>>=◌, Format, number, with_fault, dependent_pair, ◌&◌, structure_format}
 use Rattle.td_cdr.specs.Format.{variant_format, constant_format, placeholder_format, failure_format, union_format}
@@ -28,7 +28,7 @@ joins g l = record { found = l.found; only = l.only }
 
 -- what was found is what is read
 found-read : {F Y : Type 0} (g : Format F Y) → Lawful g → (a : At) (v : Y) (next : At)
-    → a.origin ≤ a.place → Found g.spells a v next → g.reads a ≡ Ok (v, next)
+    → a.origin ≤ a.place → FoundSpelling g.spells a v next → g.reads a ≡ Ok (v, next)
 found-read g l a v next h f = read_again g.spells g.reads (joins g l) a v next h f
 
 -- ---- ways to build a format
@@ -67,7 +67,7 @@ placeholder_format-refuses x g faults r = mapped-refuses faults g.reads (λ v. (
 
 pub constant_format-refuses : {F X : Type 0} (x : X)
     → Refuses no_fault (constant_format {F = F} x).reads
-constant_format-refuses x = record { told = λ a f h e. absurd cc; only = λ a f h d. absurd d }
+constant_format-refuses x = record { content = λ a f h e. absurd cc; only = λ a f h d. absurd d }
 
 abbrev refusal : {F : Type 0} → (A : Type 0) → F → Result A F
 refusal A f = Err f
@@ -78,7 +78,7 @@ fault_is A x y e = cc
 pub failure_format-refuses : {F X : Type 0} (bad : At → F)
     → Refuses (each_fault bad) (failure_format {X = X} bad).reads
 failure_format-refuses {X = X} bad = record {
-  told = λ a f h e. sym (fault_is (X × At) (bad a) f e);
+  content = λ a f h e. sym (fault_is (X × At) (bad a) f e);
   only = λ a f h d. ap (refusal (X × At)) (sym d);
 }
 
@@ -89,13 +89,13 @@ unfit_err : {F A : Type 0} (ok : Bool) (x : A) (d f : F) → cond ok (Ok x) (Err
 unfit_err true x d f e = absurd cc
 unfit_err false x d f e = (refl, cc)
 
-restriction-told : {F X : Type 0} (ok : X → Bool) (bad : X → At → F) (g : Format F X)
+restriction-content : {F X : Type 0} (ok : X → Bool) (bad : X → At → F) (g : Format F X)
     (faults : Faults F) → Lawful g
     → Refuses faults g.reads → (a : At) (f : F) → a.origin ≤ a.place
     → (restriction_format ok bad g).reads a ≡ Err f → RestrictionFault g.spells ok bad faults a f
-restriction-told ok bad g faults l r a f h e =
+restriction-content ok bad g faults l r a f h e =
     elim (bind_err (g.reads a) (λ x. cond (ok x.0) (Ok x) (Err (bad x.0 a))) f e) [
-      | inl t ↦ RestrictionFault.unread (r.told a f h t)
+      | inl t ↦ RestrictionFault.unread (r.content a f h t)
       | inr t ↦ let u = unfit_err (ok t.0.0) t.0 (bad t.0.0 a) f t.2 in
           RestrictionFault.unfit t.0.0 t.0.1 (l.found a t.0.0 t.0.1 h t.1) u.0 u.1
     ]
@@ -113,7 +113,7 @@ pub restriction_format-refuses : {F X : Type 0} (ok : X → Bool) (bad : X → A
     → Lawful g → Refuses faults g.reads
     → Refuses (RestrictionFault g.spells ok bad faults) (restriction_format ok bad g).reads
 restriction_format-refuses ok bad g faults l r = record {
-  told = restriction-told ok bad g faults l r;
+  content = restriction-content ok bad g faults l r;
   only = restriction-refused ok bad g faults l r;
 }
 
@@ -122,13 +122,13 @@ unknown_err : {F Y : Type 0} (o : Option Y) (d f : F) (next : At) → or_fault o
 unknown_err (Some y) d f next e = absurd cc
 unknown_err None d f next e = (refl, cc)
 
-partial-told : {F X Y : Type 0} (to : X → Option Y) (from : Y → X) (bad : X → At → F)
+partial-content : {F X Y : Type 0} (to : X → Option Y) (from : Y → X) (bad : X → At → F)
     (g : Format F X) (faults : Faults F)
     → Lawful g → Refuses faults g.reads → (a : At) (f : F) → a.origin ≤ a.place
     → (partial_format to from bad g).reads a ≡ Err f → PartialFault g.spells to bad faults a f
-partial-told to from bad g faults l r a f h e =
+partial-content to from bad g faults l r a f h e =
     elim (bind_err (g.reads a) (λ x. or_fault (to x.0) (bad x.0 a) x.1) f e) [
-      | inl t ↦ PartialFault.unread (r.told a f h t)
+      | inl t ↦ PartialFault.unread (r.content a f h t)
       | inr t ↦ let u = unknown_err (to t.0.0) (bad t.0.0 a) f t.0.1 t.2 in
           PartialFault.unknown t.0.0 t.0.1 (l.found a t.0.0 t.0.1 h t.1) u.0 u.1
     ]
@@ -146,7 +146,7 @@ pub partial_format-refuses : {F X Y : Type 0} (to : X → Option Y) (from : Y �
     → Lawful g → Refuses faults g.reads
     → Refuses (PartialFault g.spells to bad faults) (partial_format to from bad g).reads
 partial_format-refuses to from bad g faults l r = record {
-  told = partial-told to from bad g faults l r;
+  content = partial-content to from bad g faults l r;
   only = partial-refused to from bad g faults l r;
 }
 
@@ -164,7 +164,8 @@ after-zero a =
     ap (λ (n : ℕ). record { rest = a.rest; place = n; origin = a.origin; order = a.order })
     (let e : a.place + 0 ≡ a.place = omega arith in e)
 
-nothing-found : {F X : Type 0} (g : Format F X) (a : At) → Found (array_format g 0).spells a [] a
+nothing-found : {F X : Type 0} (g : Format F X) (a : At) → FoundSpelling (array_format g 0).spells a
+    [] a
 nothing-found g a = record {
   bytes = [];
   spelled = (refl, refl);
@@ -173,13 +174,14 @@ nothing-found g a = record {
 }
 
 nothing-moved : {F X : Type 0} (g : Format F X) (a next : At)
-    → Found (array_format g 0).spells a [] next → next ≡ a
+    → FoundSpelling (array_format g 0).spells a [] next → next ≡ a
 nothing-moved g a next f = f.moved ∙ ap (λ (b : List ℕ). after (length b) a) f.spelled.1
     ∙ after-zero a
 
 item-before : {F X : Type 0} (g : Format F X) (a b c : At) (x : X) (xs : List X)
-    → a.origin ≤ a.place → Found g.spells a x b → Found (array_format g (length xs)).spells b xs c
-    → Found (array_format g (suc (length xs))).spells a (x ∷ xs) c
+    → a.origin ≤ a.place → FoundSpelling g.spells a x b
+    → FoundSpelling (array_format g (length xs)).spells b xs c
+    → FoundSpelling (array_format g (suc (length xs))).spells a (x ∷ xs) c
 item-before g a b c x xs h f w =
     let both = Found-then g.spells (λ _. (array_format g (length xs)).spells) a b c x xs h f w in
     record {
@@ -191,7 +193,7 @@ item-before g a b c x xs h f w =
 
 abbrev Halves : {X Y : Type 0} → (Order → ℕ → X → List ℕ → Type 0)
     → (Order → ℕ → Y → List ℕ → Type 0) → At → X → Y → At → Type 0
-Halves first second a x y c = (b : At) × Found first a x b × Found second b y c
+Halves first second a x y c = (b : At) × FoundSpelling first a x b × FoundSpelling second b y c
 
 Found-halves : {X Y : Type 0} (first : Order → ℕ → X → List ℕ → Type 0)
     (second : Order → ℕ → Y → List ℕ → Type 0) (a c : At) (x : X) (y : Y) (bytes : List ℕ)
@@ -223,7 +225,7 @@ Found-halves first second a c x y bytes h s parts moved =
     )
 
 array-halves : {F X : Type 0} (g : Format F X) (a c : At) (x : X) (xs : List X) → a.origin ≤ a.place
-    → Found (array_format g (suc (length xs))).spells a (x ∷ xs) c
+    → FoundSpelling (array_format g (suc (length xs))).spells a (x ∷ xs) c
     → Halves g.spells (array_format g (length xs)).spells a x xs c
 array-halves {X = X} g a c x xs h f =
     let head : f.spelled.0.0 ≡ x = cc f.spelled.1 in
@@ -247,7 +249,8 @@ module _ {F X : Type 0} (g : Format F X) (faults : Faults F) where
     holds = d;
   }
 
-  later-fault : (n : ℕ) (a b : At) (x : X) (f : F) → a.origin ≤ a.place → Found g.spells a x b
+  later-fault : (n : ℕ) (a b : At) (x : X) (f : F) → a.origin ≤ a.place
+      → FoundSpelling g.spells a x b
       → ArrayFault g faults n b f → ArrayFault g faults (suc n) a f
   later-fault n a b x f h w z = record {
     before = x ∷ z.before;
@@ -257,18 +260,18 @@ module _ {F X : Type 0} (g : Format F X) (faults : Faults F) where
     holds = z.holds;
   }
 
-  array-told : Lawful g → Refuses faults g.reads → (n : ℕ) (a : At) (f : F) → a.origin ≤ a.place
+  array-content : Lawful g → Refuses faults g.reads → (n : ℕ) (a : At) (f : F) → a.origin ≤ a.place
       → (array_format g n).reads a ≡ Err f → ArrayFault g faults n a f
-  array-told l r zero a f h e = absurd cc
-  array-told l r (suc n) a f h e =
+  array-content l r zero a f h e = absurd cc
+  array-content l r (suc n) a f h e =
       elim (bind_err ((g & array_format g n).reads a) (λ x. Ok (x.0.0 ∷ x.0.1, x.1)) f e) [
         | inl t ↦ elim (bind_err (g.reads a)
             (λ x. (array_format g n).reads x.1 >>= λ y. Ok ((x.0, y.0), y.1)) f t) [
-              | inl u ↦ first-fault n a f (r.told a f h u)
+              | inl u ↦ first-fault n a f (r.content a f h u)
               | inr u ↦ let w = l.found a u.0.0 u.0.1 h u.1 in
                   elim (bind_err ((array_format g n).reads u.0.1) (λ y. Ok ((u.0.0, y.0), y.1)) f u.2) [
                     | inl v ↦ later-fault n a u.0.1 u.0.0 f h w
-                        (array-told l r n u.0.1 f (moved-on g.spells a u.0.0 u.0.1 h w) v)
+                        (array-content l r n u.0.1 f (moved-on g.spells a u.0.0 u.0.1 h w) v)
                     | inr v ↦ absurd (cc v.2)
                   ]
             ]
@@ -278,7 +281,7 @@ module _ {F X : Type 0} (g : Format F X) (faults : Faults F) where
   array-refused : Lawful g → Refuses faults g.reads → (before : List X) (n : ℕ) (a next : At)
       (f : F)
       → a.origin ≤ a.place → length before < n
-      → Found (array_format g (length before)).spells a before next
+      → FoundSpelling (array_format g (length before)).spells a before next
       → faults next f → (array_format g n).reads a ≡ Err f
   array-refused l r before zero a next f h few found d = absurd (omega (arith, few))
   array-refused l r [] (suc n) a next f h few found d =
@@ -294,7 +297,7 @@ module _ {F X : Type 0} (g : Format F X) (faults : Faults F) where
   pub array_format-refuses : Lawful g → Refuses faults g.reads → (n : ℕ)
       → Refuses (ArrayFault g faults n) (array_format g n).reads
   array_format-refuses l r n = record {
-    told = array-told l r n;
+    content = array-content l r n;
     only = λ a f h z. array-refused l r z.before n a z.next f h z.fewer z.found z.holds;
   }
 

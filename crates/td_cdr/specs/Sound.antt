@@ -6,7 +6,7 @@ use Rattle.std.specs.Int.{Width, w16, w32, w64}
 use mir.Val.{bits}
 use Rattle.td_cdr.specs.declared.order.Order.{Order}
 use Rattle.td_cdr.specs.Place.{At}
-use Rattle.td_cdr.specs.Reading.{aligned}
+use Rattle.td_cdr.specs.Reading.{next_aligned}
 use Rattle.td_cdr.specs.Format.{Format, Piece, row, ◌then◌, number as a_number, signed as a_signed}
 use Rattle.td_cdr.specs.Format.{boolean as a_boolean, octets as some_octets, text as a_text, with_fault, dependent_pair}
 use Rattle.td_cdr.specs.Format.{◌&◌ as ◌and◌, structure_format, variant_format, constant_format, placeholder_format}
@@ -161,7 +161,7 @@ structure to from back forth g = record {
 
 -- an enumeration: each value by its place in the list of all
 abbrev pub bad_value : ℕ → At → ValueFault
-bad_value n a = BadValue (aligned 4 a)
+bad_value n a = BadValue (next_aligned 4 a)
 
 abbrev pub enumeration : {Y : Type 0} (ys : List Y) (number_of : Y → ℕ)
     → ((y : Y) → nth ys (number_of y) ≡ Some y)
@@ -224,51 +224,52 @@ constant y = record {
 -- ---- unions
 
 -- the values of one tag
-pub record Arm (F K Y : Type 0) (tag_of : Y → K) : Type 1 where
+pub record FormatArm (F K Y : Type 0) (tag_of : Y → K) : Type 1 where
   pub format : Format F Y
   pub lawful : Lawful format
   pub faults : Faults F
   pub refuses : Refuses faults format.reads
   pub tag : K
-  pub told : (order : Order) (place : ℕ) (y : Y) (b : List ℕ) → format.spells order place y b
+  pub content : (order : Order) (place : ℕ) (y : Y) (b : List ℕ) → format.spells order place y b
       → tag ≡ tag_of y
 
 -- those of one variant, by its members
 abbrev pub arm : {F K X Y : Type 0} {tag_of : Y → K} (k : K) (to : X → Y) (from : Y → Option X)
     → ((x : X) → from (to x) ≡ Some x) → ((x : X) → k ≡ tag_of (to x)) → Sound F X
-    → Arm F K Y tag_of
-arm {tag_of = tag_of} k to from back told g = record {
+    → FormatArm F K Y tag_of
+arm {tag_of = tag_of} k to from back content g = record {
   format = variant_format to from g.format;
   lawful = variant_format-lawful to from g.format back g.lawful;
   faults = g.faults;
   refuses = variant_format-refuses to from g.format g.faults g.refuses;
   tag = k;
-  told = λ order place y b s. told s.0 ∙ ap tag_of s.1;
+  content = λ order place y b s. content s.0 ∙ ap tag_of s.1;
 }
 
 -- one value, with no bytes
-abbrev pub bare_arm : {F K Y : Type 0} {tag_of : Y → K} (y : Y) → Arm F K Y tag_of
+abbrev pub bare_arm : {F K Y : Type 0} {tag_of : Y → K} (y : Y) → FormatArm F K Y tag_of
 bare_arm {tag_of = tag_of} y = record {
   format = constant_format y;
   lawful = constant_format-lawful y;
   faults = no_fault;
   refuses = constant_format-refuses y;
   tag = tag_of y;
-  told = λ order place z b s. ap tag_of s.0;
+  content = λ order place z b s. ap tag_of s.0;
 }
 
 -- each arm has its own tag
-abbrev pub IsTable : {F K Y : Type 0} {tag_of : Y → K} → (K → Arm F K Y tag_of) → Type 0
+abbrev pub IsTable : {F K Y : Type 0} {tag_of : Y → K} → (K → FormatArm F K Y tag_of) → Type 0
 IsTable {K = K} arms = (k : K) → (arms k).tag ≡ k
 
 -- a union: its discriminator, and then the arm that this chooses
-abbrev pub union : {F K Y : Type 0} → Sound F K → (tag_of : Y → K) → (arms : K → Arm F K Y tag_of)
+abbrev pub union : {F K Y : Type 0} → Sound F K → (tag_of : Y → K)
+    → (arms : K → FormatArm F K Y tag_of)
     → IsTable arms → Sound F Y
 union tag tag_of arms table = record {
   format = union_format tag.format tag_of (λ k. (arms k).format);
   lawful =
       union_format-lawful tag.format tag_of (λ k. (arms k).format) tag.lawful (λ k. (arms k).lawful)
-      (λ k order place y b s. sym (table k) ∙ (arms k).told order place y b s);
+      (λ k order place y b s. sym (table k) ∙ (arms k).content order place y b s);
   faults = ThenFault tag.format.spells tag.faults (λ k. (arms k).faults);
   refuses =
       union_format-refuses tag.format tag_of (λ k. (arms k).format) tag.faults
@@ -279,10 +280,10 @@ union tag tag_of arms table = record {
 abbrev pub selection : {F K Y : Type 0} (tag : Sound F K) (tag_of : Y → K) (arms : K → Sound F Y)
     → ((k : K) (order : Order) (place : ℕ) (y : Y) (b : List ℕ)
     → (arms k).format.spells order place y b → k ≡ tag_of y) → Sound F Y
-selection tag tag_of arms told = record {
+selection tag tag_of arms content = record {
   format = union_format tag.format tag_of (λ k. (arms k).format);
   lawful = union_format-lawful tag.format tag_of (λ k. (arms k).format) tag.lawful
-      (λ k. (arms k).lawful) told;
+      (λ k. (arms k).lawful) content;
   faults = ThenFault tag.format.spells tag.faults (λ k. (arms k).faults);
   refuses =
       union_format-refuses tag.format tag_of (λ k. (arms k).format) tag.faults

@@ -29,7 +29,7 @@ pub record SpellsSigned (width : Width) (size : ℕ) (order : Order) (place : �
 -- Boolean: an octet that is 0 or 1
 pub record SpellsBoolean (order : Order) (place : ℕ) (v : Bool) (b : List ℕ) : Type 0 where
   pub flag : ℕ
-  pub told : IsFlag v flag
+  pub content : IsFlag v flag
   pub octet : SpellsNumber 1 order place flag b
 
 -- Sequence: bytes behind their number
@@ -67,12 +67,12 @@ pub record SpellsWithin {Y : Type 0} (inner : Order → ℕ → Y → List ℕ �
   pub flag : ℕ
   pub body : List ℕ
   pub ignored : List ℕ
-  pub order_told : IsFlag little flag
+  pub order_of_flag : IsFlag little flag
   pub octets : SpellsOctets order place (flag ∷ (body ++ ignored)) b
   pub spelled : inner (order_of little) 1 v body
 
 -- what a reading found: a spelling at its place, which it went over
-pub record Found {Y : Type 0} (spells : Order → ℕ → Y → List ℕ → Type 0) (a : At) (v : Y)
+pub record FoundSpelling {Y : Type 0} (spells : Order → ℕ → Y → List ℕ → Type 0) (a : At) (v : Y)
     (next : At) : Type 0 where
   pub bytes : List ℕ
   pub spelled : spells a.order (a.place - a.origin) v bytes
@@ -83,7 +83,7 @@ pub record Found {Y : Type 0} (spells : Order → ℕ → Y → List ℕ → Typ
 pub record Joins {F Y : Type 0} (spells : Order → ℕ → Y → List ℕ → Type 0)
     (reading : At → Result (Y × At) F) : Type 0 where
   pub found : (a : At) (v : Y) (next : At) → a.origin ≤ a.place → reading a ≡ Ok (v, next)
-      → Found spells a v next
+      → FoundSpelling spells a v next
   pub only : (a : At) (v : Y) (b rest : List ℕ) → a.origin ≤ a.place
       → spells a.order (a.place - a.origin) v b
       → a.rest ≡ b ++ rest → reading a ≡ Ok (v, after (length b) a)

@@ -25,9 +25,9 @@ written_signed-spelled width size order place v wide fits =
     let s = written_number-spelled size order place (cast_unsigned width v) (omega arith) in
     record { long = s.long; value = ap (cast_signed width) s.value ∙ to_z-of_z width v fits }
 
-flag-told : (v : Bool) → IsFlag v (from_bool v)
-flag-told false = refl
-flag-told true = refl
+flag-content : (v : Bool) → IsFlag v (from_bool v)
+flag-content false = refl
+flag-content true = refl
 
 flag-below : (v : Bool) → from_bool v < 256 ^ 1
 flag-below false = omega arith
@@ -37,7 +37,7 @@ pub written_boolean-spelled : (order : Order) (place : ℕ) (v : Bool)
     → SpellsBoolean order place v (written_number 1 order place (from_bool v))
 written_boolean-spelled order place v = record {
   flag = from_bool v;
-  told = flag-told v;
+  content = flag-content v;
   octet = written_number-spelled 1 order place (from_bool v) (flag-below v);
 }
 
@@ -72,7 +72,7 @@ written_within-spelled item order Big place v body s short =
       flag = 0;
       body = body;
       ignored = [];
-      order_told = refl;
+      order_of_flag = refl;
       octets = rw append-nil (written_octets-spelled order place (0 ∷ body) (omega arith));
       spelled = s;
     }
@@ -82,7 +82,7 @@ written_within-spelled item order Little place v body s short =
       flag = 1;
       body = body;
       ignored = [];
-      order_told = refl;
+      order_of_flag = refl;
       octets = rw append-nil (written_octets-spelled order place (1 ∷ body) (omega arith));
       spelled = s;
     }

@@ -76,7 +76,7 @@ impl Boxed<Text> {
     ///
     /// # Errors
     ///
-    /// `Memory` for want of memory alone.
+    /// `Memory` only when out of memory.
     pub fn from_slice(alloc: Global, bytes: &[u8]) -> Result<Boxed<Text>, Memory>
         ensures { IfOk result (λ b. b ≡ bytes.now) }
     {
@@ -96,7 +96,7 @@ impl<T: Drop> Boxed<T> {
     ///
     /// # Errors
     ///
-    /// `Memory` for want of memory alone; the value is then dropped.
+    /// `Memory` only when out of memory; the value is then dropped.
     pub fn new(alloc: Global, value: T) -> Result<Boxed<T>, Memory>
         ensures { IfOk result (λ b. b ≡ value) }
     {
@@ -111,7 +111,7 @@ impl<T: Twin + Drop> Boxed<T> {
     ///
     /// # Errors
     ///
-    /// `Memory` for want of memory alone.
+    /// `Memory` only when out of memory.
     pub fn copy_of(alloc: Global, value: &T) -> Result<Boxed<T>, Memory>
         ensures { IfOk result (λ b. b ≡ value.now) }
     {

@@ -16,7 +16,7 @@ ghost use Rattle.td_cdr.specs.Faults.{Refuses};
 ghost use Rattle.td_cdr.specs.Items.{Item, pair, encapsulated, ValueOf, Spells, reading, IsFaulty};
 
 /// What is read is spelled so, and what is spelled so is read, whatever follows. A reading is refused
-/// exactly with the fault of the first item that has no spelling, and never for want of memory. No
+/// exactly with the fault of the first item that has no spelling, and never when out of memory. No
 /// bytes at one place begin with spellings of two values.
 pub fn is_read()
     ensures joins { (item : Item) → Joins (Spells item) (reading item) }

@@ -2,35 +2,38 @@
 //! request_id of a query), as functions that do nothing: each one's contract is the law.
 
 ghost use Rattle.std.specs.Prelude.{◌≡◌, ℕ, ◌+◌, ◌^◌, ◌<◌, ◌≤◌, ◌⊎◌, List, Some, None};
-ghost use Rattle.td_cdr.specs.Marks.{Marks, Holds, remembered, Orderly, marked, made_identifier, Later, Follows};
+ghost use Rattle.td_cdr.specs.Marks.{Marks, RemembersAs, remembered, KeepsLatest, add_mark, made_identifier, Later};
+ghost use Rattle.td_cdr.specs.Marks.{IsMarkedFrom};
 
 /// An identifier is remembered under a number exactly where it is among the marks that are kept.
 #[tactic(auto, using(crate::proofs::Marking::is_held, crate::proofs::Marking::is_not_held))]
 pub fn the_kept_are_remembered()
-    ensures held { (m : Marks) (i : List ℕ) (n : ℕ) → remembered m i ≡ Some n → Holds m i n }
-    ensures not_held { (m : Marks) (i : List ℕ) → remembered m i ≡ None → (n : ℕ) → Holds m i n
+    ensures held { (m : Marks) (i : List ℕ) (n : ℕ) → remembered m i ≡ Some n → RemembersAs m i n }
+    ensures not_held { (m : Marks) (i : List ℕ) → remembered m i ≡ None → (n : ℕ)
+        → RemembersAs m i n
         → ⊥ }
 {}
 
 /// A mark of an identifier that isn't remembered: the marks are later then and in order, and the mark is new.
 pub fn marks_follow()
-    ensures { (m : Marks) (i : List ℕ) (c : ℕ) → Orderly m → m.counter ≤ c
-        → ((n : ℕ) → Holds m i n → ⊥) → Follows m (marked m i c) }
+    ensures { (m : Marks) (i : List ℕ) (c : ℕ) → KeepsLatest m → m.counter ≤ c
+        → ((n : ℕ) → RemembersAs m i n → ⊥) → IsMarkedFrom m (add_mark m i c) }
 {}
 
 /// What is remembered behind one more mark: that one with the next number, no other that wasn't, and each that there
 /// is room for.
 pub fn one_more_is_remembered()
-    ensures new { (m : Marks) (i : List ℕ) (c : ℕ) → Holds (marked m i c) i (m.count + 1) }
+    ensures new { (m : Marks) (i : List ℕ) (c : ℕ) → RemembersAs (add_mark m i c) i (m.count + 1) }
     ensures others { (m : Marks) (i j : List ℕ) (c n : ℕ) →
-        Holds (marked m i c) j n → Holds m j n ⊎ ((i ≡ j) × (m.count + 1 ≡ n)) }
+        RemembersAs (add_mark m i c) j n → RemembersAs m j n ⊎ ((i ≡ j) × (m.count + 1 ≡ n)) }
     ensures kept { (m : Marks) (i j : List ℕ) (c n : ℕ) →
-        Orderly m → m.count + 1 < n + m.ring → Holds m j n → Holds (marked m i c) j n }
+        KeepsLatest m → m.count + 1 < n + m.ring → RemembersAs m j n
+        → RemembersAs (add_mark m i c) j n }
 {}
 
 /// Marks are later than themselves, and later on is later.
 #[tactic(auto, using(crate::proofs::Marking::later_itself, crate::proofs::Marking::later_on))]
-pub fn later_marks_go_on()
+pub fn later_is_an_order()
     ensures itself { (a : Marks) → Later a a }
     ensures on { (a b c : Marks) → Later a b → Later b c → Later a c }
 {}

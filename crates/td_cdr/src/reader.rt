@@ -43,7 +43,8 @@ impl<'a> Reader<'a> {
     ghost use Rattle.std.specs.Prelude.{IfOk, MatchResult, ◌*◌, take, ◌≡◌, ◌+◌, ◌≤◌, ◌<◌, ◌^◌, length, drop};
     ghost use Rattle.std.specs.Int.{w16, w32, w64};
     ghost use Rattle.td_cdr.specs.Lawful.{AreOctets};
-    ghost use Rattle.td_cdr.specs.Reading.{inside, aligned, GivesOrStays, cell_at, number_at, signed_at, boolean_at};
+    ghost use Rattle.td_cdr.specs.Reading.{inside, next_aligned, GivesOrStays, cell_at, number_at, signed_at};
+    ghost use Rattle.td_cdr.specs.Reading.{boolean_at};
     ghost use Rattle.td_cdr.specs.Reading.{octets_at, string_at, encapsulation_at};
 
     /// A reader of a message's bytes from this place on. `place` counts from their first byte, from which
@@ -96,7 +97,7 @@ impl<'a> Reader<'a> {
         requires high { size ≤ 8 }
         ensures gives { GivesOrStays (λ b. b.now) self.old self.new result (cell_at size self.old) }
         ensures size { IfOk result (λ b. length b.now ≡ size) }
-        ensures place { IfOk result (λ b. self.new.place ≡ aligned size self.old + size) }
+        ensures place { IfOk result (λ b. self.new.place ≡ next_aligned size self.old + size) }
         ensures order { self.new.order ≡ self.old.order }
     {
         let pad = (size - (self.place - self.origin) % size) % size;
@@ -147,7 +148,7 @@ impl<'a> Reader<'a> {
     #[tactic(auto, unfolding(crate::specs::Reading::number_at))]
     pub fn u32(&mut self) -> Result<u32, CdrFault>
         ensures gives { GivesOrStays (λ v. v) self.old self.new result (number_at 4 self.old) }
-        ensures place { IfOk result (λ v. self.new.place ≡ aligned 4 self.old + 4) }
+        ensures place { IfOk result (λ v. self.new.place ≡ next_aligned 4 self.old + 4) }
     {
         let cell = self.cell(4)?;
         Ok(match self.order {
@@ -282,7 +283,7 @@ impl<'a> Reader<'a> {
     /// Where the next unsigned long stands, behind its padding, counted from the message's first byte. A
     /// place past the last that a `u32` can name is that last one.
     pub fn aligned(&self) -> u32
-        ensures { result ≡ aligned 4 self.now }
+        ensures { result ≡ next_aligned 4 self.now }
     {
         self.place
             .saturating_add((4 - (self.place - self.origin) % 4) % 4)

@@ -12,7 +12,7 @@ use std::alloc::Global;
 ///
 /// # Errors
 ///
-/// `Memory` for want of memory alone; the first of the values may then be written.
+/// `Memory` only when out of memory; the first of the values may then be written.
 pub fn put_two<A: Spelled, B: Spelled>(
     alloc: Global,
     w: &mut Writer,
@@ -29,7 +29,7 @@ pub fn put_two<A: Spelled, B: Spelled>(
 ///
 /// # Errors
 ///
-/// `Memory` for want of memory alone; the first of the values may then be written.
+/// `Memory` only when out of memory; the first of the values may then be written.
 pub fn put_three<A: Spelled, B: Spelled, C: Spelled>(
     alloc: Global,
     w: &mut Writer,
@@ -48,7 +48,7 @@ pub fn put_three<A: Spelled, B: Spelled, C: Spelled>(
 ///
 /// # Errors
 ///
-/// `Memory` for want of memory alone; the first of the values may then be written.
+/// `Memory` only when out of memory; the first of the values may then be written.
 pub fn put_four<A: Spelled, B: Spelled, C: Spelled, D: Spelled>(
     alloc: Global,
     w: &mut Writer,
@@ -68,7 +68,7 @@ pub fn put_four<A: Spelled, B: Spelled, C: Spelled, D: Spelled>(
 ///
 /// # Errors
 ///
-/// `Memory` for want of memory alone; the first of the values may then be written.
+/// `Memory` only when out of memory; the first of the values may then be written.
 pub fn put_five<A: Spelled, B: Spelled, C: Spelled, D: Spelled, E: Spelled>(
     alloc: Global,
     w: &mut Writer,
@@ -89,7 +89,7 @@ pub fn put_five<A: Spelled, B: Spelled, C: Spelled, D: Spelled, E: Spelled>(
 ///
 /// # Errors
 ///
-/// `Memory` for want of memory alone; the first of the values may then be written.
+/// `Memory` only when out of memory; the first of the values may then be written.
 pub fn put_six<A: Spelled, B: Spelled, C: Spelled, D: Spelled, E: Spelled, F: Spelled>(
     alloc: Global,
     w: &mut Writer,

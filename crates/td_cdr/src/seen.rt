@@ -57,7 +57,7 @@ pub fn nothing_seen<'a>(alloc: Global) -> Seen<'a>
 ///
 /// # Errors
 ///
-/// `Memory` for want of memory alone; never for one of the first 16.
+/// `Memory` only when out of memory; never for one of the first 16.
 #[tactic(auto, using(crate::proofs::Sets::met))]
 pub fn see<'a>(seen: &mut Seen<'a>, name: &'a [u8]) -> Result<bool, Memory>
     ensures fresh { IfOk result (λ fresh. fresh ≡ not (has_seen seen.old name.now)) }

@@ -48,7 +48,7 @@ impl<T: Drop> Shared<T> {
     ///
     /// # Errors
     ///
-    /// `Memory` for want of memory alone; the value is then dropped.
+    /// `Memory` only when out of memory; the value is then dropped.
     pub fn new(alloc: Global, value: T) -> Result<Shared<T>, Memory>
         ensures { IfOk result (λ s. s ≡ value) }
     {
@@ -63,7 +63,7 @@ impl<T: Twin + Drop> Shared<T> {
     ///
     /// # Errors
     ///
-    /// `Memory` for want of memory alone.
+    /// `Memory` only when out of memory.
     pub fn of(alloc: Global, value: &T) -> Result<Shared<T>, Memory>
         ensures { IfOk result (λ s. s ≡ value.now) }
     {
@@ -114,7 +114,7 @@ impl<T: Spelled + Drop> Spelled for Shared<T> {
 ///
 /// # Errors
 ///
-/// `Memory` for want of memory alone.
+/// `Memory` only when out of memory.
 pub fn share_two<A: Twin + Drop, B: Twin + Drop>(
     alloc: Global,
     a: &A,
@@ -131,7 +131,7 @@ pub fn share_two<A: Twin + Drop, B: Twin + Drop>(
 ///
 /// # Errors
 ///
-/// `Memory` for want of memory alone.
+/// `Memory` only when out of memory.
 pub fn share_three<A: Twin + Drop, B: Twin + Drop, C: Twin + Drop>(
     alloc: Global,
     a: &A,
@@ -149,7 +149,7 @@ pub fn share_three<A: Twin + Drop, B: Twin + Drop, C: Twin + Drop>(
 ///
 /// # Errors
 ///
-/// `Memory` for want of memory alone; the values are then dropped.
+/// `Memory` only when out of memory; the values are then dropped.
 pub fn share_owned_two<A: Drop, B: Drop>(
     alloc: Global,
     owned: (A, B),
@@ -166,7 +166,7 @@ pub fn share_owned_two<A: Drop, B: Drop>(
 ///
 /// # Errors
 ///
-/// `Memory` for want of memory alone; the values are then dropped.
+/// `Memory` only when out of memory; the values are then dropped.
 pub fn share_owned_three<A: Drop, B: Drop, C: Drop>(
     alloc: Global,
     owned: (A, (B, C)),
@@ -184,7 +184,7 @@ pub fn share_owned_three<A: Drop, B: Drop, C: Drop>(
 ///
 /// # Errors
 ///
-/// `Memory` for want of memory alone.
+/// `Memory` only when out of memory.
 pub fn share_four<A: Twin + Drop, B: Twin + Drop, C: Twin + Drop, D: Twin + Drop>(
     alloc: Global,
     a: &A,

@@ -10,7 +10,7 @@ use std::alloc::Global;
 ///
 /// # Errors
 ///
-/// `Memory` for want of memory alone.
+/// `Memory` only when out of memory.
 pub fn copy_two<A: Twin + Drop, B: Twin>(alloc: Global, a: &A, b: &B) -> Result<(A, B), Memory>
     ensures { IfOk result (λ twins. twins ≡ (a.now, b.now)) }
 {
@@ -23,7 +23,7 @@ pub fn copy_two<A: Twin + Drop, B: Twin>(alloc: Global, a: &A, b: &B) -> Result<
 ///
 /// # Errors
 ///
-/// `Memory` for want of memory alone.
+/// `Memory` only when out of memory.
 pub fn copy_three<A: Twin + Drop, B: Twin + Drop, C: Twin>(
     alloc: Global,
     a: &A,
@@ -41,7 +41,7 @@ pub fn copy_three<A: Twin + Drop, B: Twin + Drop, C: Twin>(
 ///
 /// # Errors
 ///
-/// `Memory` for want of memory alone.
+/// `Memory` only when out of memory.
 pub fn copy_four<A: Twin + Drop, B: Twin + Drop, C: Twin + Drop, D: Twin>(
     alloc: Global,
     a: &A,

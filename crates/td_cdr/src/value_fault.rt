@@ -30,7 +30,7 @@ pub enum ValueFault {
     /// (CORBA, General Inter-ORB Protocol, "TypeCode").
     #[error("the indirection at byte {0} leads to no TypeCode before it")]
     Indirection(u32),
-    /// Want of memory.
+    /// Out of memory.
     #[error("there is no memory left")]
     Memory,
 }

@@ -31,7 +31,7 @@ pub fn read_whole<T: Spelled + Drop>(alloc: Global, r: &mut Reader) -> Result<T,
 ///
 /// # Errors
 ///
-/// `Memory` for want of memory or of room; the writer is then unchanged.
+/// `Memory` when out of memory or of room; the writer is then unchanged.
 pub fn write_whole<T: Spelled>(alloc: Global, w: &mut Writer, value: &T) -> Result<(), Memory>
     ensures { Appends (T.format.writes value.now) w.old w.new result }
 {

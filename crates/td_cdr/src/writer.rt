@@ -54,7 +54,7 @@ impl Writer {
     ///
     /// # Errors
     ///
-    /// `Memory` for want of memory, or where the writer would come to 2^32 bytes; it is then unchanged.
+    /// `Memory` when out of memory, or where the writer would come to 2^32 bytes; it is then unchanged.
     pub fn reserve(&mut self, bytes: usize) -> Result<(), Memory>
         ensures ok { OnOk result ((self.new.bytes ≡ self.old.bytes)
             × (self.new.order ≡ self.old.order)
@@ -324,7 +324,7 @@ impl Writer {
     ///
     /// # Errors
     ///
-    /// `Memory` for want of memory alone.
+    /// `Memory` only when out of memory.
     pub fn inside(alloc: Global, order: Order) -> Result<Writer, Memory>
         ensures { IfOk result (λ w. (w.bytes ≡ flag order ∷ []) × (w.order ≡ order)) }
     {

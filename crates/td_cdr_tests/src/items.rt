@@ -81,8 +81,8 @@ fn wanted(word: &str) -> Result<i128, CdrFault> {
 }
 
 /// Whether this number or fault is read, and where the reader then stands.
-fn is_number(reader: &mut Reader, kind: &str, told: &str) -> bool {
-    let (word, end) = cut(told);
+fn is_number(reader: &mut Reader, kind: &str, content: &str) -> bool {
+    let (word, end) = cut(content);
     number_of(reader, kind) == wanted(word) && reader.place() == named(end)
 }
 
@@ -95,15 +95,15 @@ fn are_digits(alloc: Global, bytes: &[u8], digits: &str) -> bool {
 }
 
 /// Whether these bytes are read, or a fault, which leaves the reader where it is.
-fn are_bytes(alloc: Global, reader: &mut Reader, kind: &str, told: &str) -> bool {
+fn are_bytes(alloc: Global, reader: &mut Reader, kind: &str, content: &str) -> bool {
     let place = reader.place();
     let found = match kind {
         "string" => reader.string(),
         _ => reader.octets(),
     };
     match found {
-        Ok(found) => are_digits(alloc, found, told),
-        Err(found) => fault_of(told) == Some(found) && reader.place() == place,
+        Ok(found) => are_digits(alloc, found, content),
+        Err(found) => fault_of(content) == Some(found) && reader.place() == place,
     }
 }
 
@@ -114,43 +114,49 @@ fn inside(reader: &mut Reader) -> Result<(u64, u32, u32), CdrFault> {
 }
 
 /// Whether this is read inside, or a fault.
-fn is_inside(reader: &mut Reader, told: &str) -> bool {
+fn is_inside(reader: &mut Reader, content: &str) -> bool {
     match inside(reader) {
-        Ok((value, inner, outer)) => are_places(value, inner, outer, told),
-        Err(fault) => fault_of(told) == Some(fault),
+        Ok((value, inner, outer)) => are_places(value, inner, outer, content),
+        Err(fault) => fault_of(content) == Some(fault),
     }
 }
 
-fn are_places(value: u64, inner: u32, outer: u32, told: &str) -> bool {
-    let (number, places) = cut(told);
+fn are_places(value: u64, inner: u32, outer: u32, content: &str) -> bool {
+    let (number, places) = cut(content);
     let (first, second) = cut(places);
     wanted(number) == Ok(i128::from(value)) && named(first) == inner && named(second) == outer
 }
 
 /// Whether what is read from this place on is as it is told.
-fn is_told(alloc: Global, bytes: &[u8], place: u32, asked: (Order, &str), told: &str) -> bool {
+fn is_content(
+    alloc: Global,
+    bytes: &[u8],
+    place: u32,
+    asked: (Order, &str),
+    content: &str,
+) -> bool {
     if place as usize > bytes.len() || bytes.len() >= 100 {
         return false;
     }
     let (order, kind) = asked;
     let mut reader = Reader::new(bytes, place, order);
     match kind {
-        "string" | "octets" => are_bytes(alloc, &mut reader, kind, told),
-        "inside" => is_inside(&mut reader, told),
-        _ => is_number(&mut reader, kind, told),
+        "string" | "octets" => are_bytes(alloc, &mut reader, kind, content),
+        "inside" => is_inside(&mut reader, content),
+        _ => is_number(&mut reader, kind, content),
     }
 }
 
 /// Whether it is read so as a line says.
 fn is_so(alloc: Global, line: &str) -> bool {
-    let (asked, told) = line.split_once(" =>").unwrap_or((line, ""));
+    let (asked, content) = line.split_once(" =>").unwrap_or((line, ""));
     let (kind, rest) = cut(asked);
     let (order, rest) = cut(rest);
     let (place, digits) = cut(rest);
     match hex::decode(alloc, digits.as_bytes()) {
         Ok(bytes) => {
             let asked = (order_of(order), kind);
-            is_told(alloc, bytes.as_slice(), named(place), asked, told.trim())
+            is_content(alloc, bytes.as_slice(), named(place), asked, content.trim())
         }
         Err(_) => false,
     }
@@ -319,8 +325,8 @@ fn octet_of(letter: u8) -> u8 {
     }
 }
 
-fn is_named(name: &[u8], told: &str) -> bool {
-    let (word, rest) = cut(told);
+fn is_named(name: &[u8], content: &str) -> bool {
+    let (word, rest) = cut(content);
     let (identifier, trader) = cut(rest);
     is_word_name(name) == (word == "yes")
         && is_identifier(name) == (identifier == "yes")
@@ -328,9 +334,9 @@ fn is_named(name: &[u8], told: &str) -> bool {
 }
 
 fn is_named_so(alloc: Global, line: &str) -> bool {
-    let (word, told) = cut(line);
+    let (word, content) = cut(line);
     match name_of(alloc, word) {
-        Ok(name) => is_named(name.as_slice(), told),
+        Ok(name) => is_named(name.as_slice(), content),
         Err(_) => false,
     }
 }

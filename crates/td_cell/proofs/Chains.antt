@@ -10,7 +10,8 @@ use Rattle.atomic_table.proofs.Lists.{at_set}
 use Rattle.td_cdr.specs.Marks.{In}
 use Rattle.td_cell.specs.declared.pass.View.{View}
 use Rattle.td_cell.specs.Lists.{itself}
-use Rattle.td_cell.specs.Rules.{Holds, Placed, Known, Chained, Sees, Before, BothBefore, places_of, meeting, gone}
+use Rattle.td_cell.specs.Rules.{Holds, OwnPlacesCover, KnowsMet, AreChain, Sees, Before, BothBefore, places_of}
+use Rattle.td_cell.specs.Rules.{met_view, gone}
 use Rattle.td_cell.proofs.Lists.{in-snoc, in-last, in-before}
 use Rattle.td_cell.proofs.Owns.{at_snoc2, set_back, set_mine, set_forth, split_back, split_forth, met_back, met_forth}
 
@@ -33,11 +34,11 @@ word_same (w ∷ y ∷ ws) = refl
 
 module _ {B : Type 0} (views : List (View B)) where
   module _ (id : ℕ) (v w : View B) (here : get_elem? views id ≡ some v) (live : v.spent ≡ false)
-      (live2 : w.spent ≡ false) (o n : ℕ) (p : Placed o n views) where
+      (live2 : w.spent ≡ false) (o n : ℕ) (p : OwnPlacesCover o n views) where
     mine : (k : ℕ) → In k v.own → Holds places_of views id k
     mine k has = record { view = v; at = here; live = live; has = has }
 
-    pub placed_same : w.own ≡ v.own → Placed o n (slice_set views id w)
+    pub placed_same : w.own ≡ v.own → OwnPlacesCover o n (slice_set views id w)
     placed_same same = record {
       reaches = p.reaches;
       within = λ i k h. elim (set_back places_of views id v w here live live2 i k h) as (λ _. (o ≤ k) × (k < n)) [
@@ -49,7 +50,7 @@ module _ {B : Type 0} (views : List (View B)) where
           (h.0, set_forth places_of views id v w here live live2 (λ x. subst (In x) (sym same)) h.0 k h.1);
     }
 
-    pub placed_more : w.own ≡ v.own ++ n ∷ [] → Placed o (n + 1) (slice_set views id w)
+    pub placed_more : w.own ≡ v.own ++ n ∷ [] → OwnPlacesCover o (n + 1) (slice_set views id w)
     placed_more more = record {
       reaches = let r = p.reaches in omega arith;
       within = λ i k h. elim (set_back places_of views id v w here live live2 i k h) as (λ _. (o ≤ k) × (k < n + 1)) [
@@ -72,7 +73,7 @@ module _ {B : Type 0} (views : List (View B)) where
           ));
     }
 
-    pub placed_split : (z : View B) → z.own ≡ [] → w.own ≡ v.own → Placed o n (slice_set views id w ++ z ∷ [])
+    pub placed_split : (z : View B) → z.own ≡ [] → w.own ≡ v.own → OwnPlacesCover o n (slice_set views id w ++ z ∷ [])
     placed_split z nothing same = record {
       reaches = p.reaches;
       within = λ i k h. p.within i k (split_back places_of views id v w here live live2 z nothing same i k h);
@@ -87,30 +88,30 @@ module _ {B : Type 0} (views : List (View B)) where
     before_sees v a b p (inr e) = subst (λ o. Before later o b) e p.1
 
     pub known_before : (b : B) → ((i : ℕ) (v : View B) → get_elem? views i ≡ some v → BothBefore later v b) → (a : B)
-        → Known views a → later a b
+        → KnowsMet views a → later a b
     known_before b all a k = before_sees k.view a b (all k.seat k.view k.at) k.sees
 
-    pub chain_of : (after : List (View B)) → ((a : B) → Known after a → Known views a) → Chained later views
-        → Chained later after
+    pub chain_of : (after : List (View B)) → ((a : B) → KnowsMet after a → KnowsMet views a) → AreChain later views
+        → AreChain later after
     chain_of after back c a b p q = c a b (back a p) (back b q)
 
     module _ (id : ℕ) (v w : View B) (here : get_elem? views id ≡ some v) (c : B)
-        (all : (a : B) → Known views a → later a c) (itself : (b : B) → later b b) where
-      pub chain_set : ((a : B) → Sees w a → Sees v a ⊎ (a ≡ c)) → Chained later views
-          → Chained later (slice_set views id w)
+        (all : (a : B) → KnowsMet views a → later a c) (itself : (b : B) → later b b) where
+      pub chain_set : ((a : B) → Sees w a → Sees v a ⊎ (a ≡ c)) → AreChain later views
+          → AreChain later (slice_set views id w)
       chain_set sees chain a b p q = join (class a p) (class b q)
         where
-          class : (x : B) → Known (slice_set views id w) x → Known views x ⊎ (x ≡ c)
-          class x k = elim (at_set views id k.seat w k.view k.at) as (λ _. Known views x ⊎ (x ≡ c)) [
+          class : (x : B) → KnowsMet (slice_set views id w) x → KnowsMet views x ⊎ (x ≡ c)
+          class x k = elim (at_set views id k.seat w k.view k.at) as (λ _. KnowsMet views x ⊎ (x ≡ c)) [
             | inl r ↦ elim (sees x (subst (λ (y : View B). Sees y x) (sym r.1) k.sees)) as (λ _.
-                Known views x ⊎ (x ≡ c)) [
+                KnowsMet views x ⊎ (x ≡ c)) [
                   | inl s ↦ inl (record { seat = id; view = v; at = here; sees = s })
                   | inr e ↦ inr e
                 ]
             | inr r ↦ inl (record { seat = k.seat; view = k.view; at = r.1; sees = k.sees })
           ]
 
-          join : Known views a ⊎ (a ≡ c) → Known views b ⊎ (b ≡ c) → later a b ⊎ later b a
+          join : KnowsMet views a ⊎ (a ≡ c) → KnowsMet views b ⊎ (b ≡ c) → later a b ⊎ later b a
           join (inl x) (inl y) = chain a b x y
           join (inl x) (inr e) = inl (subst (λ z. later a z) (sym e) (all a x))
           join (inr e) (inl y) = inr (subst (λ z. later b z) (sym e) (all b y))
@@ -118,10 +119,10 @@ module _ {B : Type 0} (views : List (View B)) where
 
     -- the views after a split, and after a meeting, know no more
     pub known_split : (id : ℕ) (v w z : View B) → get_elem? views id ≡ some v → ((a : B) → Sees w a → Sees v a)
-        → ((a : B) → Sees z a → Sees v a) → (a : B) → Known (slice_set views id w ++ z ∷ []) a → Known views a
+        → ((a : B) → Sees z a → Sees v a) → (a : B) → KnowsMet (slice_set views id w ++ z ∷ []) a → KnowsMet views a
     known_split id v w z here one two a k =
-        elim (at_snoc2 (slice_set views id w) z k.view k.seat k.at) as (λ _. Known views a) [
-          | inl p ↦ elim (at_set views id k.seat w k.view p) as (λ _. Known views a) [
+        elim (at_snoc2 (slice_set views id w) z k.view k.seat k.at) as (λ _. KnowsMet views a) [
+          | inl p ↦ elim (at_set views id k.seat w k.view p) as (λ _. KnowsMet views a) [
             | inl q ↦ record {
               seat = id;
               view = v;
@@ -139,13 +140,13 @@ module _ {B : Type 0} (views : List (View B)) where
         ]
 
     pub known_met : (id other : ℕ) (v w u : View B) → get_elem? views id ≡ some v → get_elem? views other ≡ some w
-        → ((a : B) → Sees u a → Sees v a ⊎ Sees w a) → (a : B) → Known (slice_set (slice_set views id u) other gone) a
-        → Known views a
+        → ((a : B) → Sees u a → Sees v a ⊎ Sees w a) → (a : B) → KnowsMet (slice_set (slice_set views id u) other gone) a
+        → KnowsMet views a
     known_met id other v w u here there both a k =
-        elim (at_set (slice_set views id u) other k.seat gone k.view k.at) as (λ _. Known views a) [
+        elim (at_set (slice_set views id u) other k.seat gone k.view k.at) as (λ _. KnowsMet views a) [
           | inl p ↦ absurd (nobody a (subst (λ (y : View B). Sees y a) (sym p.1) k.sees))
-          | inr p ↦ elim (at_set views id k.seat u k.view p.1) as (λ _. Known views a) [
-            | inl q ↦ elim (both a (subst (λ (y : View B). Sees y a) (sym q.1) k.sees)) as (λ _. Known views a) [
+          | inr p ↦ elim (at_set views id k.seat u k.view p.1) as (λ _. KnowsMet views a) [
+            | inl q ↦ elim (both a (subst (λ (y : View B). Sees y a) (sym q.1) k.sees)) as (λ _. KnowsMet views a) [
               | inl s ↦ record { seat = id; view = v; at = here; sees = s }
               | inr s ↦ record { seat = other; view = w; at = there; sees = s }
             ]
@@ -158,19 +159,19 @@ module _ {B : Type 0} (views : List (View B)) where
         nobody a (inr e) = absurd (cc)
 
   pub placed_met : (id other : ℕ) (v w : View B) → get_elem? views id ≡ some v → get_elem? views other ≡ some w
-      → other ≢ id → v.spent ≡ false → w.spent ≡ false → (o n : ℕ) → Placed o n views
-      → Placed o n (slice_set (slice_set views id (meeting v w)) other gone)
+      → other ≢ id → v.spent ≡ false → w.spent ≡ false → (o n : ℕ) → OwnPlacesCover o n views
+      → OwnPlacesCover o n (slice_set (slice_set views id (met_view v w)) other gone)
   placed_met id other v w here there apart live live2 o n p = record {
     reaches = p.reaches;
     within =
-        λ i k h. elim (met_back places_of views id other v w (meeting v w) gone here there apart live live2 live refl
+        λ i k h. elim (met_back places_of views id other v w (met_view v w) gone here there apart live live2 live refl
         itself refl i k h) as (λ _. (o ≤ k) × (k < n)) [
           | inl q ↦ p.within i k q
           | inr q ↦ p.within other k q.1
         ];
     held =
         λ k a b. let h = p.held k a b in
-        met_forth places_of views id other v w (meeting v w) gone here there apart live live2 live refl itself refl
+        met_forth places_of views id other v w (met_view v w) gone here there apart live live2 live refl itself refl
         h.0 k h.1;
   }
 

@@ -6,7 +6,7 @@ use lib.ListN.{get_elem?}
 use Rattle.atomic_table.specs.Table.{State, Final, Seen}
 use Rattle.td_cdr.specs.Marks.{In, Marks}
 use Rattle.td_cell.specs.declared.pass.View.{View}
-use Rattle.td_cell.specs.Rules.{Kept, Taken, Numbered, Before, all_met}
+use Rattle.td_cell.specs.Rules.{KeepsRule, HoldsTurn, NumbersDiffer, Before, all_met}
 
 pub none_left : (ms : List Bool) (k : ℕ) → all_met ms ≡ true → slice_get ms k ≡ Some false → ⊥
 none_left [] k h e = absurd (cc)
@@ -21,7 +21,7 @@ none_left (true ∷ ms) (suc k) h e = none_left ms k h e
 module _ {B : Type 0} (later : B → B → Type 0) (size : B → ℕ) (kept : B → Marks) (opened : B) (id : ℕ) (v : View B)
     (first : v.number ≡ 0) (live : v.spent ≡ false) (rests : v.holds ≡ false) (met : all_met v.met ≡ true) where
   -- only the opening view is not spent
-  alone : (views : List (View B)) → Numbered views → get_elem? views id ≡ some v → (i : ℕ) (h : View B)
+  alone : (views : List (View B)) → NumbersDiffer views → get_elem? views id ≡ some v → (i : ℕ) (h : View B)
       → get_elem? views i ≡ some h → h.spent ≡ false → h ≡ v
   alone views n here i h there unspent = number_or h.number refl
     where
@@ -41,7 +41,7 @@ module _ {B : Type 0} (later : B → B → Type 0) (size : B → ℕ) (kept : B 
           absurd (none_left v.met (h.number - 1) met
           (ap (λ (x : View B). slice_get x.met (h.number - 1)) same ∙ o.2 (omega arith)))
 
-  none_holds : (s : State B (View B)) (i : ℕ) (h : View B) (b : B) → Taken later size kept s i h b → Numbered s.views
+  none_holds : (s : State B (View B)) (i : ℕ) (h : View B) (b : B) → HoldsTurn later size kept s i h b → NumbersDiffer s.views
       → get_elem? s.views id ≡ some v → ⊥
   none_holds s i h b t n here = spent_or h.spent refl
     where
@@ -59,7 +59,7 @@ module _ {B : Type 0} (later : B → B → Type 0) (size : B → ℕ) (kept : B 
     pub since : later opened b
     pub places : (k : ℕ) → size opened ≤ k → k < size b → In k v.own
 
-  pub at_home : (ws : List ℕ) (xs : List B) → Final (Seen (Kept later size kept opened) id v) ws xs
+  pub at_home : (ws : List ℕ) (xs : List B) → Final (Seen (KeepsRule later size kept opened) id v) ws xs
       → (b : B) × (get_elem? xs 0 ≡ some b) × Home b
   at_home ws xs (s, (k, here), w, l, homes) = elim k.stands as (λ _. (b : B) × (get_elem? xs 0 ≡ some b) × Home b) [
     | inl f ↦ (

@@ -7,7 +7,7 @@ use mathlib.Core.Logic.{dite}
 use native.Mathlib.Decide.{ℕ_discrete}
 use lib.ListN.{get_elem?}
 use Rattle.td_cell.specs.declared.pass.View.{View}
-use Rattle.td_cell.specs.Rules.{Numbered, all_met, count_met}
+use Rattle.td_cell.specs.Rules.{NumbersDiffer, all_met, count_met}
 
 pub count-more : (ms : List Bool) → count_met (ms ++ false ∷ []) ≡ count_met ms
 count-more [] = refl
@@ -39,7 +39,7 @@ count-all (true ∷ ms) = count-all ms ∙ same-next (count_met ms) (length ms)
 
 -- the opening pass counts those that it has met
 pub meetings_of : {B : Type 0} (views : List (View B)) (id : ℕ) (v : View B) → get_elem? views id ≡ some v
-    → v.number ≡ 0 → v.spent ≡ false → Numbered views → v.meetings ≡ count_met v.met
+    → v.number ≡ 0 → v.spent ≡ false → NumbersDiffer views → v.meetings ≡ count_met v.met
 meetings_of {B} views id v here first live n =
     let mine : id ≡ n.seats 0 = rw first at (n.each id v here live).0 in
     let same : v ≡ n.chief = some-injective v n.chief (sym here ∙ (ap (get_elem? views) mine ∙ n.here)) in

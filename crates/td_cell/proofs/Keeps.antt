@@ -13,9 +13,11 @@ use Rattle.atomic_table.proofs.Lists.{at_set, set_again, set_else}
 use Rattle.td_cdr.specs.Marks.{Later, Marks}
 use Rattle.td_cell.specs.declared.pass.View.{View}
 use Rattle.td_cell.specs.Lists.{itself}
-use Rattle.td_cell.specs.OwnMarks.{MarksOnce, marks_between, number_of}
-use Rattle.td_cell.specs.Rules.{Kept, Stands, Free, Taken, Numbered, Owned, Placed, Before, BothBefore, Takes, Counted}
-use Rattle.td_cell.specs.Rules.{Marks_counted, Learned, Gives, holding, counted, marked, resting, learnt, places_of}
+use Rattle.td_cell.specs.OwnMarks.{AddsMark, marks_between, number_of}
+use Rattle.td_cell.specs.Rules.{KeepsRule, HoldsBook, Free, HoldsTurn, NumbersDiffer, OwnPlacesDiffer, OwnPlacesCover}
+use Rattle.td_cell.specs.Rules.{Before, BothBefore, TakesTurn, CountsChanges}
+use Rattle.td_cell.specs.Rules.{Marks_counted, LearnsMet, GivesView, with_turn, with_changes, with_marks, without_turn}
+use Rattle.td_cell.specs.Rules.{learnt, places_of}
 use Rattle.td_cell.specs.Rules.{marks_of, Marking_kept, count_met}
 use Rattle.td_cell.proofs.Owns.{set_at, owned_same, owned_more}
 use Rattle.td_cell.proofs.Marking.{marking_same, marks_step, spaced_of}
@@ -24,8 +26,8 @@ use Rattle.td_cell.proofs.Chains.{just, word_else, word_else2, placed_same, plac
 module _ {B : Type 0} where
   -- a pass that does a turn keeps its number and its list
   pub numbered_set : (views : List (View B)) (id : ℕ) (v w : View B) → get_elem? views id ≡ some v → v.spent ≡ false
-      → w.spent ≡ false → w.number ≡ v.number → w.met ≡ v.met → w.meetings ≡ v.meetings → Numbered views
-      → Numbered (slice_set views id w)
+      → w.spent ≡ false → w.number ≡ v.number → w.met ≡ v.met → w.meetings ≡ v.meetings → NumbersDiffer views
+      → NumbersDiffer (slice_set views id w)
   numbered_set views id v w here live live2 number met meetings n = record {
     seats = n.seats;
     chief = found.0;
@@ -66,7 +68,7 @@ module _ {B : Type 0} where
   module _ (later : B → B → Type 0) (size : B → ℕ) (kept : B → Marks) (alone : (b : B) → later b b)
       (on : (b c d : B) → later b c → later c d → later b d) (opened : B) where
     abbrev Rule : State B (View B) → Type 0
-    Rule = Kept later size kept opened
+    Rule = KeepsRule later size kept opened
 
     before_on : (o : Maybe B) (b c : B) → Before later o b → later b c → Before later o c
     before_on None b c p q = tt
@@ -76,11 +78,11 @@ module _ {B : Type 0} where
         → Free later size kept s k.book → get_elem? s.views id ≡ some v
         → (w : View B) × (a : Act B) × Rattle.atomic_table.specs.Table.Valid s.homes [] a
         × Rule (stepped s 0 (either (slice_index s.words 0 == 0) 1 (slice_index s.words 0)) id [] w a)
-        × Takes later size kept (step n 0 0 1 none) (v, []) (slice_index s.words 0)
+        × TakesTurn later size kept (step n 0 0 1 none) (v, []) (slice_index s.words 0)
         (w, Rattle.atomic_table.specs.Table.carried_after [] a)
     take_free n v id live s k f here =
         let b = k.book in
-        let w = holding v b (size b) (kept b).count in (
+        let w = with_turn v b (size b) (kept b).count in (
           w,
           takes 0 b,
           rw f.home refl,
@@ -122,16 +124,16 @@ module _ {B : Type 0} where
           ((λ z. (b, refl, (f.views id v here).1)), (λ ne. absurd (ne (rw f.word refl)))),
         )
       where
-        sees : (a : B) → (Some k.book ≡ Some a) ⊎ (v.told ≡ Some a)
-            → ((v.seen ≡ Some a) ⊎ (v.told ≡ Some a)) ⊎ (a ≡ k.book)
+        sees : (a : B) → (Some k.book ≡ Some a) ⊎ (v.content ≡ Some a)
+            → ((v.seen ≡ Some a) ⊎ (v.content ≡ Some a)) ⊎ (a ≡ k.book)
         sees a (inl e) = inr (sym (just k.book a e))
         sees a (inr e) = inl (inr e)
 
     take_held : (n : ℕ) (v : View B) (id : ℕ) (s : State B (View B)) → (k : Rule s) → (i : ℕ) (h : View B)
-        → Taken later size kept s i h k.book → get_elem? s.views id ≡ some v
+        → HoldsTurn later size kept s i h k.book → get_elem? s.views id ≡ some v
         → (w : View B) × (a : Act B) × Rattle.atomic_table.specs.Table.Valid s.homes [] a
         × Rule (stepped s 0 (either (slice_index s.words 0 == 0) 1 (slice_index s.words 0)) id [] w a)
-        × Takes later size kept (step n 0 0 1 none) (v, []) (slice_index s.words 0)
+        × TakesTurn later size kept (step n 0 0 1 none) (v, []) (slice_index s.words 0)
         (w, Rattle.atomic_table.specs.Table.carried_after [] a)
     take_held n v id s k i h t here = (
       v,
@@ -164,11 +166,11 @@ module _ {B : Type 0} where
     )
 
     pub take_allows : (n : ℕ) (v : View B) (id : ℕ) → v.spent ≡ false
-        → Allows Rule n id (v, []) 0 (λ n. either (n == 0) 1 n) (Takes later size kept (step n 0 0 1 none) (v, []))
+        → Allows Rule n id (v, []) 0 (λ n. either (n == 0) 1 n) (TakesTurn later size kept (step n 0 0 1 none) (v, []))
     take_allows n v id live s k count here fits =
         elim k.stands as (λ _. (w : View B) × (a : Act B) × Rattle.atomic_table.specs.Table.Valid s.homes [] a
         × Rule (stepped s 0 (either (slice_index s.words 0 == 0) 1 (slice_index s.words 0)) id [] w a)
-        × Takes later size kept (step n 0 0 1 none) (v, []) (slice_index s.words 0)
+        × TakesTurn later size kept (step n 0 0 1 none) (v, []) (slice_index s.words 0)
         (w, Rattle.atomic_table.specs.Table.carried_after [] a)) [
           | inl f ↦ take_free n v id live s k f here
           | inr (i, h, t) ↦ take_held n v id s k i h t here
@@ -176,7 +178,7 @@ module _ {B : Type 0} where
 
     -- the seat that holds is the one that the rule tells of
     record Mine (s : State B (View B)) (k : Rule s) (id : ℕ) (v : View B) : Type 0 where
-      taken : Taken later size kept s id v k.book
+      taken : HoldsTurn later size kept s id v k.book
       others : (j : ℕ) (u : View B) → j ≢ id → get_elem? s.views j ≡ some u → u.holds ≡ false
 
     mine : (s : State B (View B)) (k : Rule s) (id : ℕ) (v : View B) → get_elem? s.views id ≡ some v → v.holds ≡ true
@@ -188,8 +190,8 @@ module _ {B : Type 0} where
           let same : h ≡ v = some-injective h v (sym t.seat ∙ (ap (get_elem? s.views) (sym at) ∙ here)) in
           record {
             taken =
-                subst (λ j. Taken later size kept s j v k.book) (sym at)
-                (subst (λ (x : View B). Taken later size kept s i x k.book) same t);
+                subst (λ j. HoldsTurn later size kept s j v k.book) (sym at)
+                (subst (λ (x : View B). HoldsTurn later size kept s i x k.book) same t);
             others =
                 λ j u ne got. elim (t.views j u got).0 as (λ _. u.holds ≡ false)
                 [ inl e ↦ absurd (ne (e ∙ sym at)) | inr e ↦ e ];
@@ -198,11 +200,11 @@ module _ {B : Type 0} where
 
     pub count_allows : (n : ℕ) (v : View B) (id m : ℕ) (c : B) → v.spent ≡ false → v.holds ≡ true → v.changes ≤ m
         → m ≤ v.changes + 1
-        → Allows Rule n id (v, (0, c) ∷ []) 1 (λ _. m) (λ _. Counted (step n 1 m 0 none) (v, (0, c) ∷ []) m)
+        → Allows Rule n id (v, (0, c) ∷ []) 1 (λ _. m) (λ _. CountsChanges (step n 1 m 0 none) (v, (0, c) ∷ []) m)
     count_allows n v id m c live holds up once s k count here fits =
         let my = mine s k id v here holds in
         let t = my.taken in
-        let w = counted v m in
+        let w = with_changes v m in
         let word : slice_index s.words 1 ≡ v.changes = rw t.word refl in
         let own = owns (nat_lt v.changes m) refl word in (
           w,
@@ -241,41 +243,41 @@ module _ {B : Type 0} where
         )
       where
         owns : (b : Bool) → nat_lt v.changes m ≡ b → slice_index s.words 1 ≡ v.changes
-            → Owned places_of itself (slice_set s.views id
+            → OwnPlacesDiffer places_of itself (slice_set s.views id
             (record v { changes = m; own = cond b (v.own ++ v.changes ∷ []) v.own }))
-            × Placed (size opened) m (slice_set s.views id
+            × OwnPlacesCover (size opened) m (slice_set s.views id
             (record v { changes = m; own = cond b (v.own ++ v.changes ∷ []) v.own }))
         owns true e word =
             let less : v.changes < m = ltb-true v.changes m e in
-            let p : Placed (size opened) v.changes s.views =
-            subst (λ x. Placed (size opened) x s.views) word k.placed in
+            let p : OwnPlacesCover (size opened) v.changes s.views =
+            subst (λ x. OwnPlacesCover (size opened) x s.views) word k.placed in
             let w = record v { changes = m; own = v.own ++ v.changes ∷ [] } in
             let is : m ≡ v.changes + 1 = omega arith in (
               owned_more places_of s.views id v w here live live itself k.places v.changes refl
                   (λ i a h. (p.within i a h).1),
-              subst (λ x. Placed (size opened) x (slice_set s.views id w)) (sym is)
+              subst (λ x. OwnPlacesCover (size opened) x (slice_set s.views id w)) (sym is)
                   (placed_more s.views id v w here live live (size opened) v.changes p refl),
             )
         owns false e word =
             let most : m ≤ v.changes = ltb-false v.changes m e in
-            let p : Placed (size opened) v.changes s.views =
-            subst (λ x. Placed (size opened) x s.views) word k.placed in
+            let p : OwnPlacesCover (size opened) v.changes s.views =
+            subst (λ x. OwnPlacesCover (size opened) x s.views) word k.placed in
             let w = record v { changes = m } in
             let is : m ≡ v.changes = omega arith in (
               owned_same places_of s.views id v w here live live itself k.places refl,
-              subst (λ x. Placed (size opened) x (slice_set s.views id w)) (sym is)
+              subst (λ x. OwnPlacesCover (size opened) x (slice_set s.views id w)) (sym is)
                   (placed_same s.views id v w here live live (size opened) v.changes p refl),
             )
 
     pub marks_allows : (n : ℕ) (v : View B) (id m : ℕ) (b c : B) → v.spent ≡ false → v.holds ≡ true → v.seen ≡ Some b
-        → later b c → Later (kept b) (kept c) → MarksOnce (kept b) (kept c)
+        → later b c → Later (kept b) (kept c) → AddsMark (kept b) (kept c)
         → Allows Rule n id (v, (0, c) ∷ []) 2 (λ _. m) (λ _. Marks_counted kept (step n 2 m 0 none) (v, (0, c) ∷ []) m)
     marks_allows n v id m b c live holds seen grew late law s k count here fits =
         let my = mine s k id v here holds in
         let t = my.taken in
         let found : b ≡ k.book = just b k.book (sym seen ∙ t.took) in
         let up : later k.book c = subst (λ y. later y c) found grew in
-        let w = marked v c (marks_between (kept b) (kept c)) m in
+        let w = with_marks v c (marks_between (kept b) (kept c)) m in
         let both =
         marks_step s.views id v w here live live (kept b) (kept c) late
         (subst (λ x. Marking_kept (kept x) s.views) (sym found) k.marking) k.marks law
@@ -301,13 +303,13 @@ module _ {B : Type 0} where
                       | inl p ↦ (
                         inl p.0,
                         subst (λ (x : View B). BothBefore later x c) p.1
-                            (alone c, before_on v.told k.book c (t.views id v here).1.1 up),
+                            (alone c, before_on v.content k.book c (t.views id v here).1.1 up),
                       )
                       | inr p ↦ (
                         (t.views j u p.1).0,
                         (
                           before_on u.seen k.book c (t.views j u p.1).1.0 up,
-                          before_on u.told k.book c (t.views j u p.1).1.1 up,
+                          before_on u.content k.book c (t.views j u p.1).1.1 up,
                         ),
                       )
                     ];
@@ -325,21 +327,21 @@ module _ {B : Type 0} where
             marks = both.0;
             marking = both.1;
           },
-          subst (λ o. Rattle.td_cell.specs.Rules.Marked kept o v ((0, c) ∷ []) m (w, (0, c) ∷ [])) (sym seen) refl,
+          subst (λ o. Rattle.td_cell.specs.Rules.MarksBook kept o v ((0, c) ∷ []) m (w, (0, c) ∷ [])) (sym seen) refl,
         )
       where
-        sees : (a : B) → (Some c ≡ Some a) ⊎ (v.told ≡ Some a) → ((v.seen ≡ Some a) ⊎ (v.told ≡ Some a)) ⊎ (a ≡ c)
+        sees : (a : B) → (Some c ≡ Some a) ⊎ (v.content ≡ Some a) → ((v.seen ≡ Some a) ⊎ (v.content ≡ Some a)) ⊎ (a ≡ c)
         sees a (inl e) = inr (sym (just c a e))
         sees a (inr e) = inl (inr e)
 
     pub give_allows : (n : ℕ) (v : View B) (id : ℕ) (c : B) → v.spent ≡ false → v.holds ≡ true → v.seen ≡ Some c
         → v.changes ≡ size c → v.marks ≡ (kept c).count
-        → Allows Rule n id (v, (0, c) ∷ []) 0 (λ _. 0) (λ _. Gives kept (step n 0 0 0 none) (v, (0, c) ∷ []) 0)
+        → Allows Rule n id (v, (0, c) ∷ []) 0 (λ _. 0) (λ _. GivesView kept (step n 0 0 0 none) (v, (0, c) ∷ []) 0)
     give_allows n v id c live holds seen sized counts s k count here fits =
         let my = mine s k id v here holds in
         let t = my.taken in
         let found : c ≡ k.book = just c k.book (sym seen ∙ t.took) in (
-          resting v,
+          without_turn v,
           gives,
           tt,
           record {
@@ -349,7 +351,7 @@ module _ {B : Type 0} where
               word = rw (t.word, sized, counts) refl;
               home = rw t.home refl;
               views =
-                  λ j u got. elim (at_set s.views id j (resting v) u
+                  λ j u got. elim (at_set s.views id j (without_turn v) u
                   got) as (λ _. (u.holds ≡ false) × BothBefore later u c) [
                     | inl p ↦ (
                       sym (ap (λ (y : View B). y.holds) p.1),
@@ -359,17 +361,17 @@ module _ {B : Type 0} where
                     | inr p ↦ (my.others j u p.0 p.1, subst (λ x. BothBefore later u x) (sym found) (t.views j u p.1).1)
                   ];
             });
-            numbers = numbered_set s.views id v (resting v) here live live refl refl refl k.numbers;
+            numbers = numbered_set s.views id v (without_turn v) here live live refl refl refl k.numbers;
             chain =
-                chain_set s.views later id v (resting v) here k.book
+                chain_set s.views later id v (without_turn v) here k.book
                 (known_before s.views later k.book (λ i u g. (t.views i u g).1)) alone (λ a q. inl q) k.chain;
-            places = owned_same places_of s.views id v (resting v) here live live itself k.places refl;
+            places = owned_same places_of s.views id v (without_turn v) here live live itself k.places refl;
             placed =
-                rw word_else (placed_same s.views id v (resting v) here live live (size opened) (slice_index s.words 1)
+                rw word_else (placed_same s.views id v (without_turn v) here live live (size opened) (slice_index s.words 1)
                 k.placed refl);
-            marks = owned_same marks_of s.views id v (resting v) here live live number_of k.marks refl;
+            marks = owned_same marks_of s.views id v (without_turn v) here live live number_of k.marks refl;
             marking =
-                marking_same s.views id v (resting v) here live live (kept c) refl
+                marking_same s.views id v (without_turn v) here live live (kept c) refl
                 (subst (λ x. Marking_kept (kept x) s.views) (sym found) k.marking);
           },
           (

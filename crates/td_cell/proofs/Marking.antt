@@ -8,8 +8,8 @@ use Rattle.td_cdr.proofs.Marking.{made_apart}
 use Rattle.td_cdr.specs.Marks.{In, Later, Marks, NewMark, last_identifier, made_identifier}
 use Rattle.td_cell.specs.declared.pass.View.{View}
 use Rattle.td_cell.specs.declared.pass.Mark.{Mark}
-use Rattle.td_cell.specs.OwnMarks.{MarksOnce, Gap, IsMadeOf, LastIsMade, Spaced, mark_between, number_of}
-use Rattle.td_cell.specs.Rules.{Holds, Owned, Marking_kept, marks_of}
+use Rattle.td_cell.specs.OwnMarks.{AddsMark, Gap, IsMadeOf, LastIsMade, AreSpaced, mark_between, number_of}
+use Rattle.td_cell.specs.Rules.{Holds, OwnPlacesDiffer, Marking_kept, marks_of}
 use Rattle.td_cell.proofs.Lists.{in-snoc}
 use Rattle.td_cell.proofs.Owns.{set_back, owned_same, owned_more}
 use Rattle.td_cell.proofs.Chains.{just}
@@ -147,14 +147,14 @@ module _ {B : Type 0} where
             | inr h ↦ let r = late.ring in omega arith
           ]
 
-      not_new : b.count < c.count → MarksOnce b c → NewMark b c × LastIsMade b c
+      not_new : b.count < c.count → AddsMark b c → NewMark b c × LastIsMade b c
       not_new less (inl e) = let z : c.count ≡ b.count = ap (λ (x : Marks). x.count) e in absurd (omega arith)
       not_new less (inr n) = n
 
       -- what a turn's marks do
-      pub marks_step : (o : Owned marks_of number_of views) → MarksOnce b c → (t : Bool) → nat_lt b.count c.count ≡ t
+      pub marks_step : (o : OwnPlacesDiffer marks_of number_of views) → AddsMark b c → (t : Bool) → nat_lt b.count c.count ≡ t
           → w.own_marks ≡ v.own_marks ++ cond t (mark_between b c ∷ []) []
-          → Owned marks_of number_of (slice_set views id w) × Marking_kept c (slice_set views id w)
+          → OwnPlacesDiffer marks_of number_of (slice_set views id w) × Marking_kept c (slice_set views id w)
       marks_step o law true is more =
           let less = ltb-true b.count c.count is in (
             owned_more marks_of views id v w here live live2 number_of o (mark_between b c) more
@@ -170,5 +170,5 @@ module _ {B : Type 0} where
           )
 
     -- what is own is spaced
-    pub spaced_of : (m : Marks) → Marking_kept m views → Spaced m.ring v.own_marks
+    pub spaced_of : (m : Marks) → Marking_kept m views → AreSpaced m.ring v.own_marks
     spaced_of m k a b p q less = k.apart id id a b (mine a p) (mine b q) less

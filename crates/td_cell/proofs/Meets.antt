@@ -9,8 +9,9 @@ use Rattle.atomic_table.proofs.Lists.{at_set, set_else}
 use Rattle.td_cdr.specs.Marks.{Marks}
 use Rattle.td_cell.specs.declared.pass.View.{View}
 use Rattle.td_cell.specs.Lists.{itself}
-use Rattle.td_cell.specs.OwnMarks.{number_of, Spaced}
-use Rattle.td_cell.specs.Rules.{Kept, Stands, Numbered, Known, Sees, Before, BothBefore, Learned, meeting, gone, learnt}
+use Rattle.td_cell.specs.OwnMarks.{number_of, AreSpaced}
+use Rattle.td_cell.specs.Rules.{KeepsRule, HoldsBook, NumbersDiffer, KnowsMet, Sees, Before, BothBefore, LearnsMet}
+use Rattle.td_cell.specs.Rules.{met_view, gone, learnt}
 use Rattle.td_cell.specs.Rules.{places_of, marks_of, Holds}
 use Rattle.td_cell.proofs.Owns.{set_at, owned_met, owned_same, met_back}
 use Rattle.td_cell.proofs.Marking.{marking_of, marking_same, spaced_of}
@@ -27,28 +28,28 @@ get-set_other (x ∷ xs) (suc i) (suc j) w h = get-set_other xs i j w (λ e. h (
 
 module _ {B : Type 0} (views : List (View B)) (id other : ℕ) (v w : View B) where
   abbrev after : List (View B)
-  after = slice_set (slice_set views id (meeting v w)) other gone
+  after = slice_set (slice_set views id (met_view v w)) other gone
 
   abbrev Which : ℕ → View B → Type 0
   Which j u =
       ((j ≡ other) × (gone ≡ u))
-      ⊎ ((j ≢ other) × (((j ≡ id) × (meeting v w ≡ u)) ⊎ ((j ≢ id) × (get_elem? views j ≡ some u))))
+      ⊎ ((j ≢ other) × (((j ≡ id) × (met_view v w ≡ u)) ⊎ ((j ≢ id) × (get_elem? views j ≡ some u))))
 
   which : (j : ℕ) (u : View B) → get_elem? after j ≡ some u → Which j u
-  which j u got = elim (at_set (slice_set views id (meeting v w)) other j gone u got) as (λ _. Which j u) [
+  which j u got = elim (at_set (slice_set views id (met_view v w)) other j gone u got) as (λ _. Which j u) [
     | inl p ↦ inl p
-    | inr p ↦ inr (p.0, at_set views id j (meeting v w) u p.1)
+    | inr p ↦ inr (p.0, at_set views id j (met_view v w) u p.1)
   ]
 
   numbered_meet : get_elem? views id ≡ some v → get_elem? views other ≡ some w → other ≢ id → v.number ≡ 0
-      → v.spent ≡ false → v.holds ≡ false → 0 < w.number → w.spent ≡ false → Numbered views → Numbered after
+      → v.spent ≡ false → v.holds ≡ false → 0 < w.number → w.spent ≡ false → NumbersDiffer views → NumbersDiffer after
   numbered_meet here there apart first live rests pos live2 n = record {
     seats = n.seats;
-    chief = meeting v w;
+    chief = met_view v w;
     here =
-        subst (λ k. get_elem? after k ≡ some (meeting v w)) mine
-        (set_else (slice_set views id (meeting v w)) other id gone (λ e. apart (sym e))
-        ∙ set_at views id (meeting v w) v here);
+        subst (λ k. get_elem? after k ≡ some (met_view v w)) mine
+        (set_else (slice_set views id (met_view v w)) other id gone (λ e. apart (sym e))
+        ∙ set_at views id (met_view v w) v here);
     first = first;
     live = live;
     meetings =
@@ -57,8 +58,8 @@ module _ {B : Type 0} (views : List (View B)) (id other : ℕ) (v w : View B) wh
         ap (λ k. k + 1) (meetings_of views id v here first live n) ∙ sym (count-set v.met (w.number - 1) out);
     each =
         λ i u got unspent. elim (which i u
-        got) as (λ _. (i ≡ n.seats u.number) × (u.number ≤ length (meeting v w).met)
-        × (0 < u.number → slice_get (meeting v w).met (u.number - 1) ≡ Some false)) [
+        got) as (λ _. (i ≡ n.seats u.number) × (u.number ≤ length (met_view v w).met)
+        × (0 < u.number → slice_get (met_view v w).met (u.number - 1) ≡ Some false)) [
           | inl p ↦ absurd (let a : true ≡ false = ap (λ (x : View B). x.spent) p.1 ∙ unspent in cc)
           | inr (_, inl p) ↦ let zero_is : u.number ≡ 0 = ap (λ (x : View B). x.number) (sym p.1) ∙ first in
               rw zero_is (p.0 ∙ mine, omega arith, λ h. absurd (omega arith))
@@ -88,7 +89,7 @@ module _ {B : Type 0} (views : List (View B)) (id other : ℕ) (v w : View B) wh
       same = some-injective v n.chief (sym here ∙ (ap (get_elem? views) mine ∙ n.here))
 
   facts_meet : (later : B → B → Type 0) (P : View B → Type 0)
-      → ((j : ℕ) (u : View B) → get_elem? views j ≡ some u → P u) → P gone → P (meeting v w) → (j : ℕ) (u : View B)
+      → ((j : ℕ) (u : View B) → get_elem? views j ≡ some u → P u) → P gone → P (met_view v w) → (j : ℕ) (u : View B)
       → get_elem? after j ≡ some u → P u
   facts_meet later P all a b j u got = elim (which j u got) as (λ _. P u) [
     | inl p ↦ subst P p.1 a
@@ -98,9 +99,9 @@ module _ {B : Type 0} (views : List (View B)) (id other : ℕ) (v w : View B) wh
 
 module _ {B : Type 0} (later : B → B → Type 0) (size : B → ℕ) (kept : B → Marks) (opened : B) where
   stands_met : (id other : ℕ) (v w : View B) → v.holds ≡ false → w.holds ≡ false → (s : State B (View B))
-      → get_elem? s.views id ≡ some v → get_elem? s.views other ≡ some w → (b : B) → Stands later size kept s b
-      → Stands later size kept (record
-      { words = s.words; homes = s.homes; views = slice_set (slice_set s.views id (meeting v w)) other gone })
+      → get_elem? s.views id ≡ some v → get_elem? s.views other ≡ some w → (b : B) → HoldsBook later size kept s b
+      → HoldsBook later size kept (record
+      { words = s.words; homes = s.homes; views = slice_set (slice_set s.views id (met_view v w)) other gone })
       b
   stands_met id other v w rests rests2 s here there b (inl f) = inl (record {
     word = f.word;
@@ -122,8 +123,8 @@ module _ {B : Type 0} (later : B → B → Type 0) (size : B → ℕ) (kept : B 
           word = t.word;
           home = t.home;
           seat =
-              set_else (slice_set s.views id (meeting v w)) other i gone (not_at other w there rests2)
-              ∙ (set_else s.views id i (meeting v w) (not_at id v here rests) ∙ t.seat);
+              set_else (slice_set s.views id (met_view v w)) other i gone (not_at other w there rests2)
+              ∙ (set_else s.views id i (met_view v w) (not_at id v here rests) ∙ t.seat);
           holds = t.holds;
           took = t.took;
           views =
@@ -139,32 +140,32 @@ module _ {B : Type 0} (later : B → B → Type 0) (size : B → ℕ) (kept : B 
       )
 
   pub meet_allowed : (id other : ℕ) (v w : View B) → v.number ≡ 0 → v.spent ≡ false → v.holds ≡ false → 0 < w.number
-      → w.spent ≡ false → w.holds ≡ false → Joins (Kept later size kept opened) id v other w (meeting v w) gone
+      → w.spent ≡ false → w.holds ≡ false → Joins (KeepsRule later size kept opened) id v other w (met_view v w) gone
   meet_allowed id other v w first live rests pos live2 rests2 s k here apart got =
-      let there = sym (set_else s.views id other (meeting v w) apart) ∙ got in
+      let there = sym (set_else s.views id other (met_view v w) apart) ∙ got in
       record {
         book = k.book;
         since = k.since;
         stands = stands_met id other v w rests rests2 s here there k.book k.stands;
         numbers = numbered_meet s.views id other v w here there apart first live rests pos live2 k.numbers;
-        chain = chain_of s.views later _ (known_met s.views later id other v w (meeting v w) here there sees) k.chain;
+        chain = chain_of s.views later _ (known_met s.views later id other v w (met_view v w) here there sees) k.chain;
         places =
-            owned_met places_of s.views id other v w (meeting v w) gone here there apart live live2 live refl itself
+            owned_met places_of s.views id other v w (met_view v w) gone here there apart live live2 live refl itself
             refl k.places;
         placed =
             placed_met s.views id other v w here there apart live live2 (size opened) (slice_index s.words 1) k.placed;
         marks =
-            owned_met marks_of s.views id other v w (meeting v w) gone here there apart live live2 live refl number_of
+            owned_met marks_of s.views id other v w (met_view v w) gone here there apart live live2 live refl number_of
             refl k.marks;
         marking =
             marking_of s.views _ (kept k.book)
-            (λ i a h. elim (met_back marks_of s.views id other v w (meeting v w) gone here there apart live live2
+            (λ i a h. elim (met_back marks_of s.views id other v w (met_view v w) gone here there apart live live2
             live refl number_of refl i a h) as (λ _. (j : ℕ) × Holds marks_of s.views j a)
             [ inl q ↦ (i, q) | inr q ↦ (other, q.1) ])
             k.marking;
       }
     where
-      sees : (a : B) → Sees (meeting v w) a → Sees v a ⊎ Sees w a
+      sees : (a : B) → Sees (met_view v w) a → Sees v a ⊎ Sees w a
       sees a (inl e) = inl (inl e)
       sees a (inr e) = inr (inl e)
 
@@ -172,16 +173,16 @@ module _ {B : Type 0} (later : B → B → Type 0) (size : B → ℕ) (kept : B 
   module _ (alone : (b : B) → later b b) (rings : (b c : B) → later b c → (kept c).ring ≡ (kept b).ring) (n : ℕ)
       (v : View B) (id : ℕ) (first : v.number ≡ 0) (live : v.spent ≡ false) (rests : v.holds ≡ false) where
     abbrev Rule : State B (View B) → Type 0
-    Rule = Kept later size kept opened
+    Rule = KeepsRule later size kept opened
 
     abbrev Goes : State B (View B) → Type 0
     Goes s =
         (w : View B) × (a : Act B) × Valid s.homes [] a × Rule (stepped s 1 (slice_index s.words 1) id [] w a)
-        × Learned later size kept (step n 1 0 0 none) (v, []) (slice_index s.words 1) (w, carried_after [] a)
+        × LearnsMet later size kept (step n 1 0 0 none) (v, []) (slice_index s.words 1) (w, carried_after [] a)
 
     stands_learnt : (s : State B (View B)) → get_elem? s.views id ≡ some v → (x : B) → Sees v x → (b : B)
-        → Stands later size kept s b
-        → Stands later size kept (stepped s 1 (slice_index s.words 1) id [] (learnt v x (size x) (kept x).count) keeps)
+        → HoldsBook later size kept s b
+        → HoldsBook later size kept (stepped s 1 (slice_index s.words 1) id [] (learnt v x (size x) (kept x).count) keeps)
         b
     stands_learnt s here x one b (inl f) = inl (record {
       word = rw f.word refl;
@@ -258,7 +259,7 @@ module _ {B : Type 0} (later : B → B → Type 0) (size : B → ℕ) (kept : B 
           places = k.places.rises id v here live;
           marks = k.marks.rises id v here live;
           spaced =
-              subst (λ r. Spaced r v.own_marks) (rings x k.book (upto s k here x one))
+              subst (λ r. AreSpaced r v.own_marks) (rings x k.book (upto s k here x one))
               (spaced_of s.views id v v here live live (kept k.book) k.marking);
         },
         refl,
@@ -269,9 +270,9 @@ module _ {B : Type 0} (later : B → B → Type 0) (size : B → ℕ) (kept : B 
         sees a (inl e) = subst (λ y. Sees v y) (just x a e) one
         sees a (inr e) = absurd (cc)
 
-        known : (a : B) → Known (slice_set s.views id (learnt v x (size x) (kept x).count)) a → Known s.views a
+        known : (a : B) → KnowsMet (slice_set s.views id (learnt v x (size x) (kept x).count)) a → KnowsMet s.views a
         known a q =
-            elim (at_set s.views id q.seat (learnt v x (size x) (kept x).count) q.view q.at) as (λ _. Known s.views a) [
+            elim (at_set s.views id q.seat (learnt v x (size x) (kept x).count) q.view q.at) as (λ _. KnowsMet s.views a) [
               | inl p ↦ record {
                 seat = id;
                 view = v;
@@ -281,13 +282,13 @@ module _ {B : Type 0} (later : B → B → Type 0) (size : B → ℕ) (kept : B 
               | inr p ↦ record { seat = q.seat; view = q.view; at = p.1; sees = q.sees }
             ]
 
-    pub learn_allows : (a b : B) → v.seen ≡ Some a → v.told ≡ Some b
-        → Allows Rule n id (v, []) 1 (λ n. n) (Learned later size kept (step n 1 0 0 none) (v, []))
-    learn_allows a b seen told s k count here fits =
+    pub learn_allows : (a b : B) → v.seen ≡ Some a → v.content ≡ Some b
+        → Allows Rule n id (v, []) 1 (λ n. n) (LearnsMet later size kept (step n 1 0 0 none) (v, []))
+    learn_allows a b seen content s k count here fits =
         elim (k.chain a b (record { seat = id; view = v; at = here; sees = inl seen })
-        (record { seat = id; view = v; at = here; sees = inr told })) as (λ _. Goes s) [
-          | inl l ↦ learn_with s k here b (inr told)
-              (subst (λ o. Before later o b) (sym seen) l, subst (λ o. Before later o b) (sym told) (alone b))
+        (record { seat = id; view = v; at = here; sees = inr content })) as (λ _. Goes s) [
+          | inl l ↦ learn_with s k here b (inr content)
+              (subst (λ o. Before later o b) (sym seen) l, subst (λ o. Before later o b) (sym content) (alone b))
           | inr l ↦ learn_with s k here a (inl seen)
-              (subst (λ o. Before later o a) (sym seen) (alone a), subst (λ o. Before later o a) (sym told) l)
+              (subst (λ o. Before later o a) (sym seen) (alone a), subst (λ o. Before later o a) (sym content) l)
         ]

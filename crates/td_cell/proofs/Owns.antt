@@ -9,7 +9,7 @@ use Rattle.atomic_table.proofs.Lists.{at_set, set_else, at_longer}
 use Rattle.td_cdr.specs.Marks.{In}
 use Rattle.td_cell.specs.declared.pass.View.{View}
 use Rattle.td_cell.specs.Lists.{Rises, merge}
-use Rattle.td_cell.specs.Rules.{Holds, Owned}
+use Rattle.td_cell.specs.Rules.{Holds, OwnPlacesDiffer}
 use Rattle.td_cell.proofs.Lists.{in-snoc, rises-snoc, in-merge, has-merge, rises-merge}
 
 pub set_at : {A : Type 0} (l : List A) (i : ℕ) (a b : A) → get_elem? l i ≡ some b
@@ -54,7 +54,7 @@ module _ {B X : Type 0} (own : View B → List X) (views : List (View B)) where
     mine : (a : X) → In a (own v) → Holds own views id a
     mine a has = record { view = v; at = here; live = live; has = has }
 
-    module _ (number : X → ℕ) (o : Owned own number views) where
+    module _ (number : X → ℕ) (o : OwnPlacesDiffer own number views) where
       rises_set : Rises number (own w) → (i : ℕ) (u : View B) → get_elem? (slice_set views id w) i ≡ some u
           → u.spent ≡ false → Rises number (own u)
       rises_set r i u at unspent = elim (at_set views id i w u at) as (λ _. Rises number (own u)) [
@@ -62,7 +62,7 @@ module _ {B X : Type 0} (own : View B → List X) (views : List (View B)) where
         | inr p ↦ o.rises i u p.1 unspent
       ]
 
-      pub owned_same : own w ≡ own v → Owned own number (slice_set views id w)
+      pub owned_same : own w ≡ own v → OwnPlacesDiffer own number (slice_set views id w)
       owned_same same = record {
         owner = o.owner;
         each = λ i a h. elim (set_back i a h) as (λ _. i ≡ o.owner (number a)) [
@@ -74,7 +74,7 @@ module _ {B X : Type 0} (own : View B → List X) (views : List (View B)) where
 
       -- one more, whose number is above all
       pub owned_more : (x : X) → own w ≡ own v ++ x ∷ [] → ((i : ℕ) (a : X) → Holds own views i a → number a < number x)
-          → Owned own number (slice_set views id w)
+          → OwnPlacesDiffer own number (slice_set views id w)
       owned_more x more above = record {
         owner = owner;
         each = λ i a h. elim (set_back i a h) as (λ _. i ≡ owner (number a)) [
@@ -120,7 +120,7 @@ module _ {B X : Type 0} (own : View B → List X) (views : List (View B)) where
             has = m.has;
           }
 
-      pub owned_split : (number : X → ℕ) → Owned own number views → Owned own number (slice_set views id w ++ z ∷ [])
+      pub owned_split : (number : X → ℕ) → OwnPlacesDiffer own number views → OwnPlacesDiffer own number (slice_set views id w ++ z ∷ [])
       owned_split number o = record {
         owner = o.owner;
         each = λ i a h. o.each i a (split_back i a h);
@@ -182,7 +182,7 @@ module _ {B X : Type 0} (own : View B → List X) (views : List (View B)) where
           has = subst (In a) (sym both) (has-merge number a (own v) (own w) q);
         }
 
-    pub owned_met : Owned own number views → Owned own number (slice_set (slice_set views id u) other gone)
+    pub owned_met : OwnPlacesDiffer own number views → OwnPlacesDiffer own number (slice_set (slice_set views id u) other gone)
     owned_met o = record {
       owner = owner;
       each = λ i a h. elim (met_back i a h) as (λ _. i ≡ owner (number a)) [

@@ -12,7 +12,8 @@ use Rattle.td_cell.specs.declared.pass.View.{View}
 use Rattle.td_cell.specs.Lists.{Rises, itself}
 use Rattle.td_cell.specs.declared.pass.Mark.{Mark}
 use Rattle.td_cell.specs.OwnMarks.{number_of}
-use Rattle.td_cell.specs.Rules.{Kept, Stands, Numbered, Known, Sees, BothBefore, first_view, opener, split_off}
+use Rattle.td_cell.specs.Rules.{KeepsRule, HoldsBook, NumbersDiffer, KnowsMet, Sees, BothBefore, first_view, opener}
+use Rattle.td_cell.specs.Rules.{split_off}
 use Rattle.td_cell.specs.Rules.{places_of, marks_of, Holds}
 use Rattle.td_cell.proofs.Owns.{set_at, at_snoc2, owned_split, split_back}
 use Rattle.td_cell.proofs.Marking.{marking_of}
@@ -44,8 +45,8 @@ module _ {B : Type 0} (views : List (View B)) (id : ℕ) (v : View B) where
         | inr p ↦ inr (p.0 ∙ length-set views id (opener v), p.1)
       ]
 
-  numbered_split : get_elem? views id ≡ some v → v.number ≡ 0 → v.spent ≡ false → v.holds ≡ false → Numbered views
-      → Numbered after
+  numbered_split : get_elem? views id ≡ some v → v.number ≡ 0 → v.spent ≡ false → v.holds ≡ false → NumbersDiffer views
+      → NumbersDiffer after
   numbered_split here first live rests n = record {
     seats = seats;
     chief = opener v;
@@ -112,8 +113,8 @@ module _ {B : Type 0} (views : List (View B)) (id : ℕ) (v : View B) where
 -- the same of the views but one
 module _ {B : Type 0} (later : B → B → Type 0) (size : B → ℕ) (kept : B → Marks) (s : State B (View B)) (id : ℕ)
     (v : View B) (live : v.spent ≡ false) (rests : v.holds ≡ false) (here : get_elem? s.views id ≡ some v) where
-  stands_split : (b : B) → Stands later size kept s b
-      → Stands later size kept (record
+  stands_split : (b : B) → HoldsBook later size kept s b
+      → HoldsBook later size kept (record
       { words = s.words; homes = s.homes; views = slice_set s.views id (opener v) ++ split_off v ∷ [] })
       b
   stands_split b (inl f) = inl (record {
@@ -159,7 +160,7 @@ module _ {B : Type 0} (later : B → B → Type 0) (size : B → ℕ) (kept : B 
 pub split_allowed : {B : Type 0} (later : B → B → Type 0) (size : B → ℕ) (kept : B → Marks) (opened : B) (id : ℕ)
     (v : View B)
     → v.number ≡ 0 → v.spent ≡ false → v.holds ≡ false
-    → Splits (Kept later size kept opened) id v (opener v) (split_off v)
+    → Splits (KeepsRule later size kept opened) id v (opener v) (split_off v)
 split_allowed {B} later size kept opened id v first live rests s k here = record {
   book = k.book;
   since = k.since;
@@ -184,7 +185,7 @@ split_allowed {B} later size kept opened id v first live rests s k here = record
 
 -- the table begins with the rule
 pub begins : {B : Type 0} (later : B → B → Type 0) (size : B → ℕ) (kept : B → Marks) → ((b : B) → later b b) → (b : B)
-    → Kept later size kept b (opening (0 ∷ size b ∷ (kept b).count ∷ []) (b ∷ [])
+    → KeepsRule later size kept b (opening (0 ∷ size b ∷ (kept b).count ∷ []) (b ∷ [])
     (first_view b (size b) (kept b).count))
 begins {B} later size kept alone b = record {
   book = b;
@@ -250,5 +251,5 @@ begins {B} later size kept alone b = record {
     sees x (inl e) = sym (just b x e)
     sees x (inr e) = absurd (cc)
 
-    is : (x : B) → Known (first_view b (size b) (kept b).count ∷ []) x → x ≡ b
+    is : (x : B) → KnowsMet (first_view b (size b) (kept b).count ∷ []) x → x ≡ b
     is x p = sees x (subst (λ (y : View B). Sees y x) (sym (only p.seat p.view p.at).1) p.sees)

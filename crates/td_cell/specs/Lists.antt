@@ -21,5 +21,5 @@ abbrev pub itself : ℕ → ℕ
 itself k = k
 
 -- a place more where there is an entry more
-abbrev pub grown : List ℕ → ℕ → ℕ → List ℕ
-grown own old new = cond (nat_lt old new) (own ++ old ∷ []) own
+abbrev pub with_place : List ℕ → ℕ → ℕ → List ℕ
+with_place own old new = cond (nat_lt old new) (own ++ old ∷ []) own

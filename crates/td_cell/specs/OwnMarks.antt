@@ -30,8 +30,8 @@ abbrev pub LastIsMade : Marks → Marks → Type 0
 LastIsMade b c = b.counter < c.counter → IsMadeOf (last_identifier c.kept) (c.counter - 1)
 
 -- b is as it was, or has one mark more, of an identifier that wasn't remembered, stated or made
-abbrev pub MarksOnce : Marks → Marks → Type 0
-MarksOnce b c = (c ≡ b) ⊎ (NewMark b c × LastIsMade b c)
+abbrev pub AddsMark : Marks → Marks → Type 0
+AddsMark b c = (c ≡ b) ⊎ (NewMark b c × LastIsMade b c)
 
 -- of two marks of one identifier the later lies further on than there is room for marks; and of two whose identifiers
 -- were made, the later has a greater value and another identifier
@@ -40,5 +40,5 @@ pub record Gap (ring : ℕ) (a b : Mark) : Type 0 where
   pub values : (k l : ℕ) → a.made ≡ Some k → b.made ≡ Some l → k < l
   pub identifiers : (k l : ℕ) → a.made ≡ Some k → b.made ≡ Some l → a.identifier ≢ b.identifier
 
-abbrev pub Spaced : ℕ → List Mark → Type 0
-Spaced ring ms = (a b : Mark) → In a ms → In b ms → a.number < b.number → Gap ring a b
+abbrev pub AreSpaced : ℕ → List Mark → Type 0
+AreSpaced ring ms = (a b : Mark) → In a ms → In b ms → a.number < b.number → Gap ring a b

@@ -12,8 +12,8 @@ pub record SameNumbers {B : Type 0} (v w : View B) : Type 0 where
 
 module _ {B A R : Type 0} where
   -- the book with which the cell was opened
-  abbrev pub opened : Cell B A R → B
-  opened c = c.table.shared.key.value
+  abbrev pub opened_book : Cell B A R → B
+  opened_book c = c.table.shared.key.value
 
   module _ {g : Ghosts B A R} where
     -- what a pass knows

@@ -2,7 +2,7 @@
 
 ghost use Rattle.std.specs.Prelude.{◌≡◌, ℕ, ◌+◌, ◌≤◌};
 ghost use Rattle.td_cdr.specs.Marks.{Marks as TheMarks, Later};
-ghost use Rattle.td_cell.specs.OwnMarks.{MarksOnce};
+ghost use Rattle.td_cell.specs.OwnMarks.{AddsMark};
 
 /// A history of entries with the marks of queries, to which acts are done.
 pub trait Book {
@@ -52,5 +52,5 @@ pub trait Book {
         → size c ≤ size b + 1 };
 
     ghost acts_mark: { (b : Self) (a : Self.Act) (r : Self.Reply) (c : Self) →
-        acts b a r c → MarksOnce (remembers b) (remembers c) };
+        acts b a r c → AddsMark (remembers b) (remembers c) };
 }

@@ -3,7 +3,7 @@
 ghost use Rattle.std.specs.Prelude.{◌≡◌, ℕ, ◌+◌, ◌-◌, ◌<◌, ◌≤◌, vec_len, slice_set, [], ◌∷◌, false, IfOk, IfErr, OnErr};
 ghost use Rattle.std.specs.Prelude.{true};
 ghost use Rattle.td_cdr.specs.Marks.{In};
-ghost use Rattle.td_cell.specs.Rules.{first_view, holding, Turned, BothBefore, opener, split_off, meeting, Learns};
+ghost use Rattle.td_cell.specs.Rules.{first_view, with_turn, ActsOnce, BothBefore, opener, split_off, met_view, Learns};
 ghost use Rattle.td_cell.specs.Rules.{all_met, Before};
 
 use crate::book::Book;
@@ -24,16 +24,17 @@ pub struct Cell<B: Book + Drop> {
 }
 
 impl<B: Book + Drop> Cell<B> {
-    ghost use Rattle.td_cell.specs.Passes.{opened, knowledge, Belongs, SameCell, IsOpening, IsSplitOff, SameNumbers};
+    ghost use Rattle.td_cell.specs.Passes.{opened_book, knowledge, Belongs, SameCell, IsOpening, IsSplitOff};
+    ghost use Rattle.td_cell.specs.Passes.{SameNumbers};
 
     /// Puts a book into a cell, and gives the opening pass, which has seen the book as it is and has no acts.
     ///
     /// # Errors
     ///
-    /// `Memory` for want of memory alone. The book is then dropped.
+    /// `Memory` only when out of memory. The book is then dropped.
     pub fn open(alloc: Global, book: B) -> Result<(Cell<B>, Pass<B>), Memory>
         ensures own { IfOk result (λ r. Belongs r.1 r.0 × IsOpening r.1) }
-        ensures opened { IfOk result (λ r. opened r.0 ≡ book) }
+        ensures opened { IfOk result (λ r. opened_book r.0 ≡ book) }
         ensures seen { IfOk result (λ r. knowledge r.1
             ≡ first_view book (B.size book) (B.remembers book).count) }
     {
@@ -66,7 +67,7 @@ impl<B: Book + Drop> Cell<B> {
         ensures own { (seat.new.table_id ≡ seat.old.table_id) × (seat.new.id ≡ seat.old.id) }
         ensures taken { (b : B) × BothBefore B.later seat.old.me.0 b
             × (seat.new.me ≡ (
-              holding seat.old.me.0 b (B.size b) (B.remembers b).count,
+              with_turn seat.old.me.0 b (B.size b) (B.remembers b).count,
               (0, b)
                   ∷ [],
             )) }
@@ -91,7 +92,7 @@ impl<B: Book + Drop> Cell<B> {
         requires free { (seat.old.me.1 ≡ []) × (seat.old.me.0.spent ≡ false) }
         ensures own { (seat.new.table_id ≡ seat.old.table_id) × (seat.new.id ≡ seat.old.id)
             × (seat.new.me.1 ≡ []) }
-        ensures turned { Turned B.later B.size B.remembers B.acts seat.old.me.0 a result.0
+        ensures turned { ActsOnce B.later B.size B.remembers B.acts seat.old.me.0 a result.0
             seat.new.me.0 }
         ensures changes { result.1 ≡ seat.new.me.0.changes }
     {
@@ -112,7 +113,7 @@ impl<B: Book + Drop> Cell<B> {
     pub fn turn<R: Wait>(&self, rt: &R, pass: &mut Pass<B>, a: B::Act) -> B::Reply
         requires { Belongs pass.old self.now }
         ensures own { SameCell pass.new pass.old }
-        ensures turned { Turned B.later B.size B.remembers B.acts (knowledge pass.old) a result
+        ensures turned { ActsOnce B.later B.size B.remembers B.acts (knowledge pass.old) a result
             (knowledge pass.new) }
         ensures once { (knowledge pass.new).turns ≡ (knowledge pass.old).turns + 1 }
         ensures same { SameNumbers (knowledge pass.old) (knowledge pass.new) }
@@ -161,7 +162,7 @@ impl<B: Book + Drop> Cell<B> {
         ensures met { (knowledge pass.new).met
             ≡ slice_set (knowledge pass.old).met ((knowledge told).number - 1) true }
         ensures learned { Learns B.later B.size B.remembers
-            (meeting (knowledge pass.old) (knowledge told)) (knowledge pass.new) }
+            (met_view (knowledge pass.old) (knowledge told)) (knowledge pass.new) }
     {
         let Pass { seat, changes, .. } = told;
         self.table.shared.join_seat::<Meeting>(&mut pass.seat, seat);
@@ -190,9 +191,10 @@ impl<B: Book + Drop> Cell<B> {
         requires opening { IsOpening pass }
         ensures met { IfOk result (λ b. all_met (knowledge pass).met ≡ true) }
         ensures later { IfOk result (λ b. Before B.later (knowledge pass).seen b
-            × B.later (opened self) b) }
+            × B.later (opened_book self) b) }
         ensures places { IfOk result
-            (λ b. (k : ℕ) → B.size (opened self) ≤ k → k < B.size b → In k (knowledge pass).own) }
+            (λ b. (k : ℕ) → B.size (opened_book self) ≤ k → k < B.size b
+            → In k (knowledge pass).own) }
         ensures err { IfErr result (λ r. (all_met (knowledge pass).met ≡ false)
             × (r ≡ (self, pass))) }
     {

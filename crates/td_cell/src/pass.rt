@@ -28,7 +28,7 @@ pub struct View<B> {
     /// The book as it was seen last.
     pub seen: Option<B>,
     /// What a pass that is being met has seen.
-    pub told: Option<B>,
+    pub content: Option<B>,
     /// The opening pass keeps for each pass that was split off whether it was met.
     pub met: List<bool>,
     /// How many passes it has met.
@@ -63,7 +63,7 @@ pub struct Pass<B: Book> {
     ghost rests: { seat.me.0.holds ≡ false },
     ghost knows: { IsSome seat.me.0.seen },
     ghost sized: { ForSome seat.me.0.seen (λ b. changes ≡ B.size b) },
-    ghost quiet: { seat.me.0.told ≡ None },
+    ghost quiet: { seat.me.0.content ≡ None },
     ghost empty: { seat.me.1 ≡ [] },
 }
 

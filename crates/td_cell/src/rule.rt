@@ -1,7 +1,8 @@
 //! The rule of a cell's table, and what each step tells.
 ghost use Rattle.std.specs.Prelude.{◌≡◌, ℕ, [], ◌∷◌, false};
-ghost use Rattle.td_cell.specs.Rules.{Kept, first_view, Takes, Counted, Marks_counted, Learned, Gives, opener};
-ghost use Rattle.td_cell.specs.Rules.{split_off, meeting, gone};
+ghost use Rattle.td_cell.specs.Rules.{KeepsRule, first_view, TakesTurn, CountsChanges, Marks_counted, LearnsMet};
+ghost use Rattle.td_cell.specs.Rules.{GivesView, opener};
+ghost use Rattle.td_cell.specs.Rules.{split_off, met_view, gone};
 
 use crate::book::Book;
 use crate::pass::View;
@@ -12,7 +13,7 @@ use std::snapshot::Snapshot;
 pub struct Turns;
 
 impl<B: Book> TableRule<B, View<B>, Snapshot<B>> for Turns {
-    ghost holds = { λ k s. Kept B.later B.size B.remembers k.value s };
+    ghost holds = { λ k s. KeepsRule B.later B.size B.remembers k.value s };
 
     ghost first = { λ k. first_view k.value (B.size k.value) (B.remembers k.value).count };
 }
@@ -21,14 +22,14 @@ impl<B: Book> TableRule<B, View<B>, Snapshot<B>> for Turns {
 pub struct TakeTurn;
 
 impl<B: Book> Play<B, View<B>> for TakeTurn {
-    ghost then = { Takes B.later B.size B.remembers };
+    ghost then = { TakesTurn B.later B.size B.remembers };
 }
 
 /// Counts the changes.
 pub struct CountChanges;
 
 impl<B: Book> Play<B, View<B>> for CountChanges {
-    ghost then = { Counted };
+    ghost then = { CountsChanges };
 }
 
 /// Counts the marks.
@@ -42,14 +43,14 @@ impl<B: Book> Play<B, View<B>> for CountMarks {
 pub struct GiveTurn;
 
 impl<B: Book> Play<B, View<B>> for GiveTurn {
-    ghost then = { Gives B.remembers };
+    ghost then = { GivesView B.remembers };
 }
 
 /// Learns what a pass that was met had seen.
 pub struct Learn;
 
 impl<B: Book> Play<B, View<B>> for Learn {
-    ghost then = { Learned B.later B.size B.remembers };
+    ghost then = { LearnsMet B.later B.size B.remembers };
 }
 
 /// One more pass, with the next number.
@@ -65,7 +66,7 @@ impl<B> Split<View<B>> for SplitOff {
 pub struct Meeting;
 
 impl<B> Join<View<B>> for Meeting {
-    ghost both = { meeting };
+    ghost both = { met_view };
 
     ghost spent = { gone };
 }

@@ -14,7 +14,7 @@ of_change : (s : Store) (c : Change) → answers_change (acceptance s c) ≡ tru
 of_change s (change.Export reference type_name properties) = refl
 of_change s _ = refl
 
-pub answered : (s : Store) (c : Change) (told : Reply) → (apply s c).outcome ≡ Done told → answers_change told ≡ true
-answered s c told h =
-    let came = done s (comes_to s c) told h in
-    subst (λ (r : Reply). answers_change r ≡ true) (accepted s c told came.after came.is).reply (of_change s c)
+pub answered : (s : Store) (c : Change) (content : Reply) → (apply s c).outcome ≡ Done content → answers_change content ≡ true
+answered s c content h =
+    let came = done s (comes_to s c) content h in
+    subst (λ (r : Reply). answers_change r ≡ true) (accepted s c content came.after came.is).reply (of_change s c)

@@ -1,5 +1,5 @@
--- What a trader's changes and looks come to. Each goes through its operation's causes of refusal in order, and the first
--- that is met is the outcome; IMP_LIMIT is last.
+-- What a trader's changes and looks come to. Each goes through its operation's causes of refusal in order, and the
+-- first that is met is the outcome; IMP_LIMIT is last.
 use Rattle.std.specs.Prelude.{ℕ, nat_le, Bool, true, false, ◌||◌, None}
 use Rattle.td_ops.specs.declared.call.Change.{Change}
 use Rattle.td_ops.specs.declared.call.Change.TheVariants as change
@@ -9,7 +9,7 @@ use Rattle.td_ops.specs.declared.outcome.Outcome.{Outcome}
 use Rattle.td_ops.specs.declared.outcome.Reply.{Reply}
 use Rattle.td_ops.specs.declared.outcome.Reply.TheVariants as reply
 use Rattle.td_types.specs.Calls as types
-use Rattle.td_register.specs.Causes.{Applied, Cause, Comes, applied, unless, unless_full}
+use Rattle.td_register.specs.Causes.{Effect, Cause, ChangeResult, effect_of, unless, unless_full}
 use Rattle.td_register.specs.Proxies as proxies
 use Rattle.td_register.specs.Registers as register
 use Rattle.td_register.specs.Stores.{Store}
@@ -65,7 +65,7 @@ acceptance s _ = reply.Nothing
 -- the store with the change, where nothing refuses it
 abbrev pub with_change : Store → Change → Store
 with_change s (change.Export reference service_type properties) =
-    register.with_offer s (register.exported s reference service_type properties)
+    register.with_offer s (register.exported_offer s reference service_type properties)
 with_change s (change.Withdraw id) = register.without_id s id
 with_change s (change.Modify id deleted changed) = register.with_modified s id deleted changed
 with_change s (change.WithdrawUsingConstraint service_type constraint) =
@@ -97,16 +97,16 @@ with_change s (change.MaskType name) = with_types s (types.mask_type s.types nam
 with_change s (change.UnmaskType name) = with_types s (types.unmask_type s.types name)
 
 -- what a change comes to, however many came before it
-unfoldable pub comes_to : Store → Change → Comes
+unfoldable pub comes_to : Store → Change → ChangeResult
 comes_to s c = unless (cause_of s c) (acceptance s c) (with_change s c)
 
 -- the same where, if so, no more changes are accepted: that is the last cause
-abbrev pub comes_where : (full : Bool) → Store → Change → Comes
+abbrev pub comes_where : (full : Bool) → Store → Change → ChangeResult
 comes_where full s c = unless_full full (cause_of s c) (acceptance s c) (with_change s c)
 
 -- the outcome of a change, and the store behind it
-abbrev pub apply : Store → Change → Applied
-apply s c = applied s (comes_to s c)
+abbrev pub apply : Store → Change → Effect
+apply s c = effect_of s (comes_to s c)
 
 -- ---- changes that take no memory once room for their entry in the history is there
 
@@ -140,12 +140,12 @@ abbrev pub is_at_limit : Bounds → ℕ → Bool
 is_at_limit bounds count = nat_le bounds.changes count || nat_le most_changes count
 
 -- what a change comes to where so many were accepted before
-unfoldable pub counted : Bounds → (count : ℕ) → Store → Change → Comes
-counted bounds count s c = comes_where (is_at_limit bounds count) s c
+unfoldable pub count_change : Bounds → (count : ℕ) → Store → Change → ChangeResult
+count_change bounds count s c = comes_where (is_at_limit bounds count) s c
 
 -- its outcome, and the store behind it
-abbrev pub apply_counted : Bounds → (count : ℕ) → Store → Change → Applied
-apply_counted bounds count s c = applied s (counted bounds count s c)
+abbrev pub apply_counted : Bounds → (count : ℕ) → Store → Change → Effect
+apply_counted bounds count s c = effect_of s (count_change bounds count s c)
 
 -- ---- looks
 

@@ -1,8 +1,8 @@
 -- Worked examples: a trader with the type Printer, which has two properties of mode normal and one that is readonly.
 use Rattle.std.specs.Prelude.{ℕ, true, false, List, [], ◌∷◌, codes, None}
-use Rattle.td_codes.specs.declared.code.TypeCode.TheVariants as code
-use Rattle.td_codes.specs.declared.code.Value.TheVariants as value
-use Rattle.td_codes.specs.declared.reference.Ior.{Ior}
+use Rattle.td_typecode.specs.declared.code.TypeCode.TheVariants as code
+use Rattle.td_typecode.specs.declared.code.Value.TheVariants as value
+use Rattle.td_typecode.specs.declared.reference.Ior.{Ior}
 use Rattle.td_ior.specs.Nil.{nil}
 use Rattle.td_ops.specs.declared.call.Change.{Change}
 use Rattle.td_ops.specs.declared.call.Change.TheVariants as change
@@ -67,8 +67,8 @@ opening = record {
 abbrev pub export_printer : List Property → Change
 export_printer properties = change.Export object printer properties
 
-abbrev pub masked : Store
-masked = (apply opening (change.MaskType printer)).store
+abbrev pub masked_store : Store
+masked_store = (apply opening (change.MaskType printer)).store
 
 -- offer 8 has all three properties
 abbrev pub colour_duplex_serial : List Property

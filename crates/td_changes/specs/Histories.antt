@@ -33,10 +33,10 @@ Legal bounds opening history = LegalFrom bounds 0 opening history
 -- ---- a change
 
 -- an accepted change comes to the end of the history, and a refused one doesn't
-abbrev pub noted : List Accepted → Change → Outcome → List Accepted
-noted history c (Done reply) = history ++ entry c reply ∷ []
-noted history c (User e) = history
-noted history c (System kind minor completion) = history
+abbrev pub add_accepted : List Accepted → Change → Outcome → List Accepted
+add_accepted history c (Done reply) = history ++ entry c reply ∷ []
+add_accepted history c (User e) = history
+add_accepted history c (System kind minor completion) = history
 
 -- ---- what holds of every change
 

@@ -4,10 +4,10 @@ ghost use Rattle.std.specs.Prelude.{◌≡◌, ◌+◌, true, IfOk, IsOk};
 ghost use Rattle.td_admin.specs.Repositories.{next_incarnation};
 ghost use Rattle.td_changes.specs.Applying.{acceptance, apply, comes_where, is_free};
 ghost use Rattle.td_register.specs.Ids.{id_of};
-ghost use Rattle.td_register.specs.Judged.{Accepts, Applies};
+ghost use Rattle.td_register.specs.Judged.{AcceptsChange, AppliesOutcome};
 ghost use Rattle.td_register.specs.Needs.{NeedsNone};
 ghost use Rattle.td_changes.specs.Numbering.{AreNumbered};
-ghost use Rattle.td_changes.specs.Outcomes.{Ends};
+ghost use Rattle.td_changes.specs.Outcomes.{EndsWithFault};
 
 use itoa::Buffer;
 use std::alloc::Global;
@@ -19,7 +19,7 @@ use td_cdr::{Memory, Text, Twin};
 use td_export::{export, export_proxy};
 use td_modify::{modify, withdraw_using_constraint};
 use td_ops::{Change, Outcome, Reply};
-use td_register::{Accepted, Fault, refused, withdraw, withdraw_proxy};
+use td_register::{Accepted, Fault, refusal_outcome, withdraw, withdraw_proxy};
 use td_store::Store;
 use td_types::halves;
 
@@ -37,12 +37,12 @@ fn next_incarnation(last: u64) -> u64
     last.saturating_add(1)
 }
 
-/// With what the change is answered if it is accepted. It is made before the change is done, since it may want memory;
-/// the history keeps the reply in short ([`td_register::ChangeReply`]).
+/// With what the change is answered if it is accepted. It is made before the change is done, since it may run out of
+/// memory; the history keeps the reply in short ([`td_register::ChangeReply`]).
 ///
 /// # Errors
 ///
-/// `Memory` for want of memory alone; never for a change that takes none.
+/// `Memory` only when out of memory; never for a change that takes none.
 pub fn acceptance(alloc: Global, store: &Store, c: &Change) -> Result<Reply, Memory>
     ensures reply { IfOk result (λ r. r ≡ acceptance store.now c.now) }
     ensures free { is_free c.now ≡ true → IsOk result }
@@ -76,10 +76,15 @@ pub fn acceptance(alloc: Global, store: &Store, c: &Change) -> Result<Reply, Mem
 /// # Errors
 ///
 /// The refusal, which leaves the store as it was: IMP_LIMIT where nothing else refuses the change and no more
-/// are accepted. `Memory` for want of memory; the store is then as it was, too.
-pub fn perform(alloc: Global, store: &mut Store, full: bool, c: Change) -> Result<Accepted, Fault>
+/// are accepted. `Memory` when out of memory; the store is then as it was, too.
+pub fn apply_change(
+    alloc: Global,
+    store: &mut Store,
+    full: bool,
+    c: Change,
+) -> Result<Accepted, Fault>
     requires { AreNumbered store.old }
-    ensures accepts { Accepts c (comes_where full store.old c) store.old store.new result }
+    ensures accepts { AcceptsChange c (comes_where full store.old c) store.old store.new result }
     ensures free { is_free c ≡ true → NeedsNone result }
 {
     match c {
@@ -159,12 +164,12 @@ pub fn perform(alloc: Global, store: &mut Store, full: bool, c: Change) -> Resul
 ///
 /// # Errors
 ///
-/// `Memory` for want of memory alone.
+/// `Memory` only when out of memory.
 pub fn not_done(fault: Fault) -> Result<Outcome, Memory>
-    ensures { Ends fault result }
+    ensures { EndsWithFault fault result }
 {
     match fault {
-        Fault::Refused(refusal) => Ok(refused(refusal)),
+        Fault::Refused(refusal) => Ok(refusal_outcome(refusal)),
         Fault::Memory => Err(Memory),
     }
 }
@@ -173,21 +178,21 @@ pub fn not_done(fault: Fault) -> Result<Outcome, Memory>
 ///
 /// # Errors
 ///
-/// `Memory` for want of memory alone. The store is then as it was.
+/// `Memory` only when out of memory. The store is then as it was.
 pub fn apply(alloc: Global, store: &mut Store, c: Change) -> Result<Outcome, Memory>
     // The numbers of the offers were given, as after each change.
     requires { AreNumbered store.old }
-    ensures applies { Applies (apply store.old c) store.old store.new result }
+    ensures applies { AppliesOutcome (apply store.old c) store.old store.new result }
     ensures numbered { AreNumbered store.new }
 {
-    let told = acceptance(alloc, store, &c)?;
-    match perform(alloc, store, false, c) {
+    let content = acceptance(alloc, store, &c)?;
+    match apply_change(alloc, store, false, c) {
         Ok(accepted) => {
             drop(accepted);
-            Ok(Outcome::Done(told))
+            Ok(Outcome::Done(content))
         }
         Err(fault) => {
-            drop(told);
+            drop(content);
             not_done(fault)
         }
     }

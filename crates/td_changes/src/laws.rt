@@ -1,7 +1,7 @@
 //! What holds of every trader, as functions that do nothing: each one's contract is the law.
 
 ghost use Rattle.std.specs.Prelude.{◌≡◌, ℕ, List, [], codes, false, length, replicate, true};
-ghost use Rattle.td_codes.specs.declared.reference.Ior.{Ior};
+ghost use Rattle.td_typecode.specs.declared.reference.Ior.{Ior};
 ghost use Rattle.td_ops.specs.declared.call.Change.{Change};
 ghost use Rattle.td_ops.specs.declared.call.Change.TheVariants as change;
 ghost use Rattle.td_ops.specs.declared.outcome.Reply.{Reply};
@@ -10,13 +10,13 @@ ghost use Rattle.td_ops.specs.declared.outcome.Reply.TheVariants as reply;
 ghost use Rattle.td_ops.specs.declared.outcome.SystemKind.TheVariants as limit;
 ghost use Rattle.td_exceptions.specs.declared.exception.UserException.TheVariants as user;
 ghost use Rattle.td_value.specs.declared.structures.Property.{Property};
-ghost use Rattle.td_changes.specs.Applying.{apply, apply_counted, comes_to, counted, is_at_limit};
+ghost use Rattle.td_changes.specs.Applying.{apply, apply_counted, comes_to, count_change, is_at_limit};
 ghost use Rattle.td_register.specs.Causes.{system};
 ghost use Rattle.td_register.specs.ChangeReplies.{answers_change};
-ghost use Rattle.td_changes.specs.Examples.{export_printer, masked, modify_all, opening, printer, with_printer};
-ghost use Rattle.td_changes.specs.Histories.{Legal, after_all, at, is_done, noted};
+ghost use Rattle.td_changes.specs.Examples.{export_printer, masked_store, modify_all, opening, printer, with_printer};
+ghost use Rattle.td_changes.specs.Histories.{Legal, after_all, at, is_done, add_accepted};
 ghost use Rattle.td_register.specs.Ids.{id_of};
-ghost use Rattle.td_changes.specs.Laws.{Extends, TakesNext, applied_after, barred};
+ghost use Rattle.td_changes.specs.Laws.{ExtendsLegally, TakesNext, applied_after, refused_at_limit};
 ghost use Rattle.td_register.specs.Stores.{Store};
 ghost use Rattle.td_changes.specs.declared.bounds.Bounds.{Bounds};
 ghost use Rattle.td_register.specs.declared.history.Accepted.{Accepted};
@@ -34,24 +34,26 @@ pub fn refused_changes_leave_the_store()
 /// before that it comes to the same as where they aren't counted.
 pub fn the_limit_comes_last()
     ensures full { (bounds : Bounds) (count : ℕ) (s : Store) (c : Change) →
-        is_at_limit bounds count ≡ true → counted bounds count s c ≡ barred (comes_to s c) }
+        is_at_limit bounds count ≡ true → count_change bounds count s c
+        ≡ refused_at_limit (comes_to s c) }
     ensures below { (bounds : Bounds) (count : ℕ) (s : Store) (c : Change) →
-        is_at_limit bounds count ≡ false → counted bounds count s c ≡ comes_to s c }
+        is_at_limit bounds count ≡ false → count_change bounds count s c ≡ comes_to s c }
 {}
 
 /// An accepted export takes the number behind the last one that was given, also where that offer is
 /// gone.
 pub fn exports_take_the_next_number()
     ensures { (s : Store) (reference : Ior) (type_name : List ℕ) (properties : List Property)
-        (told : Reply) → (apply s (change.Export reference type_name properties)).outcome
-        ≡ outcome.Done told → TakesNext s reference type_name properties told
+        (content : Reply) → (apply s (change.Export reference type_name properties)).outcome
+        ≡ outcome.Done content → TakesNext s reference type_name properties content
         (apply s (change.Export reference type_name properties)).store }
 {}
 
 /// An accepted change is answered with a reply that a history keeps in short (`td_register::ChangeReply`).
 pub fn changes_have_their_replies()
-    ensures { (s : Store) (c : Change) (told : Reply) → (apply s c).outcome ≡ outcome.Done told →
-        answers_change told ≡ true }
+    ensures { (s : Store) (c : Change) (content : Reply) → (apply s c).outcome
+        ≡ outcome.Done content →
+        answers_change content ≡ true }
 {}
 
 /// A history is legal from its opening on: no change at all makes one, and each change extends it.
@@ -59,8 +61,8 @@ pub fn histories_are_legal()
     ensures empty { (bounds : Bounds) (opening : Store) → Legal bounds opening [] }
     ensures extended { (bounds : Bounds) (opening : Store) (history : List Accepted) (c : Change) →
         Legal bounds opening history →
-        Extends bounds opening history c (applied_after bounds opening history c)
-        (noted history c (applied_after bounds opening history c).outcome) }
+        ExtendsLegally bounds opening history c (applied_after bounds opening history c)
+        (add_accepted history c (applied_after bounds opening history c).outcome) }
 {}
 
 /// At a history's own length one is behind all of it, and at 0 at the opening.
@@ -76,7 +78,7 @@ pub fn points_lead_to_stores()
 /// a withdrawn number is unknown, and a text that is no number is no id; 65 octets are too many for a
 /// stem.
 pub fn worked_examples()
-    ensures masked { (apply masked (export_printer [])).outcome
+    ensures masked { (apply masked_store (export_printer [])).outcome
         ≡ outcome.User (user.UnknownServiceType printer) }
     ensures next { (apply opening (export_printer [])).outcome ≡ outcome.Done (reply.Id (id_of 8)) }
     ensures readonly { (apply with_printer modify_all).outcome

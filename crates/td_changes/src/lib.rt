@@ -7,7 +7,7 @@ mod bounds;
 mod laws;
 mod seeking;
 
-pub use applying::{acceptance, apply, not_done, perform};
+pub use applying::{acceptance, apply, apply_change, not_done};
 pub use bounds::{Bounds, MOST_CHANGES};
 pub use laws::{
     changes_have_their_replies, exports_take_the_next_number, histories_are_legal,

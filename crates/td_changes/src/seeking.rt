@@ -2,7 +2,7 @@
 
 ghost use Rattle.std.specs.Prelude.{◌≡◌, IfOk};
 ghost use Rattle.td_changes.specs.Applying.{seek, seen};
-ghost use Rattle.td_register.specs.Judged.{Tells};
+ghost use Rattle.td_register.specs.Judged.{IsOutcomeOrNoMemory};
 
 use std::alloc::Global;
 use td_admin::{
@@ -17,7 +17,7 @@ use td_store::Store;
 /// What a look is answered with.
 #[tactic(auto, unfolding(crate::specs::Applying::seen))]
 fn seen(alloc: Global, store: &Store, l: &Look) -> Result<Outcome, Memory>
-    ensures { Tells (seen store.now l.now) result }
+    ensures { IsOutcomeOrNoMemory (seen store.now l.now) result }
 {
     match l {
         Look::Describe { id } => describe(alloc, store, id),
@@ -37,7 +37,7 @@ fn seen(alloc: Global, store: &Store, l: &Look) -> Result<Outcome, Memory>
 ///
 /// # Errors
 ///
-/// `Memory` for want of memory alone.
+/// `Memory` only when out of memory.
 pub fn seek(alloc: Global, store: &Store, l: &Look) -> Result<(Outcome, u32), Memory>
     ensures { IfOk result (λ a. a ≡ seek store.now l.now) }
 {

@@ -2,11 +2,11 @@
 -- has, and the references of its six objects as text (OMG's Trading Object Service, TraderComponents).
 use Rattle.std.specs.Prelude.{ℕ, List, [], ◌∷◌, ◌++◌, codes, length}
 use Rattle.td_file.specs.Files.{Opening}
-use Rattle.td_ior.specs.Texts.{printed}
+use Rattle.td_ior.specs.Texts.{printed_ior}
 use Rattle.td_objects.specs.References.{own_reference}
 use Rattle.td_objects.specs.declared.interface.Interface.TheVariants as interface
 use Rattle.td_objects.specs.declared.interface.Interface.{Interface}
-use Rattle.td_forms.specs.Counted.{counted}
+use Rattle.td_forms.specs.Counted.{label_number}
 use Rattle.td_trader.specs.PlainTraders.{PlainTrader, store_of}
 use Rattle.td_value.specs.declared.key.Kind.{Kind}
 use Rattle.td_value.specs.declared.key.Kind.TheVariants as kind
@@ -18,8 +18,9 @@ use Rattle.td_check.specs.declared.objects.Own.TheVariants.{Lookup, Register, Li
 
 abbrev pub count_line : (name : List ℕ) → (types offers links : ℕ) → List ℕ
 count_line name types offers links =
-    codes "trader " ++ name ++ counted (codes " types ") types ++ counted (codes " offers ") offers
-    ++ counted (codes " links ") links ++ codes "\n"
+    codes "trader " ++ name ++ label_number (codes " types ") types
+    ++ label_number (codes " offers ") offers
+    ++ label_number (codes " links ") links ++ codes "\n"
 
 -- ---- its objects
 
@@ -49,7 +50,8 @@ kind_of Types = kind.Types
 
 -- the object's reference, as it is printed
 unfoldable pub reference_text : Address → (name : List ℕ) → Own → List ℕ
-reference_text home name own = printed (own_reference home (interface_of own) name (kind_of own))
+reference_text home name own = printed_ior (own_reference home (interface_of own) name
+    (kind_of own))
 
 abbrev pub reference_line : Address → (name : List ℕ) → Own → List ℕ
 reference_line home name own = word_of own ++ reference_text home name own ++ codes "\n"

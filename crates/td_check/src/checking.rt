@@ -47,7 +47,7 @@ fn put_all(
 ///
 /// # Errors
 ///
-/// `Memory` for want of memory alone.
+/// `Memory` only when out of memory.
 pub fn check_lines(alloc: Global, opened: &Opened) -> Result<Octets, Memory>
     requires { IsAddress opened.now.home }
     ensures { IfOk result (λ t. t ≡ check_lines (seen opened.now)) }

@@ -1,16 +1,16 @@
 -- What queries and evaluations mean to a visit: small offers that can be written, and values that can be.
 use Rattle.std.proofs.Common.{◌≡◌, Option, Some, None, Result, Ok, Err, IfOk, sym, subst}
 use Rattle.td_call.specs.Readings.{AdmitsValue}
-use Rattle.td_codes.specs.Values.{any_value}
-use Rattle.td_codes.specs.declared.code.Any.{Any}
+use Rattle.td_typecode.specs.Values.{any_value}
+use Rattle.td_typecode.specs.declared.code.Any.{Any}
 use Rattle.td_walk.specs.Peering.{HasSmallOffers, HasWritableOffers}
 use Rattle.td_walk.specs.declared.answer.SubAnswer.{SubAnswer}
 use Rattle.td_walk.specs.declared.fault.PeerFault.{PeerFault}
-use Rattle.td_gather.proofs.Fitness.{fit_small, fit_writable}
-use Rattle.td_gather.specs.Asking.{GivesFitOffers}
-use Rattle.td_gather.specs.Draining.{AreFit}
-use Rattle.td_gather.specs.declared.gathered.Gathered.{Gathered}
-use Rattle.td_gather.specs.declared.gathered.Gathered.TheVariants.{Offers, Refused}
+use Rattle.td_remote_query.proofs.Fitness.{fit_small, fit_writable}
+use Rattle.td_remote_query.specs.Querying.{GivesFitOffers}
+use Rattle.td_remote_query.specs.Draining.{AreFit}
+use Rattle.td_remote_query.specs.declared.gathered.Gathered.{Gathered}
+use Rattle.td_remote_query.specs.declared.gathered.Gathered.TheVariants.{Offers, Refused}
 use Rattle.td_client.specs.Meanings.{offers_meant, value_meant, with_meaning}
 
 -- ---- offers

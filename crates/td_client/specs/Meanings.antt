@@ -1,7 +1,7 @@
 -- What the answer to a call means to a visit: an exception is a fault there.
 use Rattle.std.specs.Prelude.{ℕ, List, Option, Some, None, Result, Ok, Err}
-use Rattle.td_codes.specs.declared.code.Any.{Any}
-use Rattle.td_codes.specs.declared.reference.Ior.{Ior}
+use Rattle.td_typecode.specs.declared.code.Any.{Any}
+use Rattle.td_typecode.specs.declared.reference.Ior.{Ior}
 use Rattle.td_ops.specs.declared.attribute.Attribute.TheVariants.{Reference as Referring}
 use Rattle.td_ops.specs.declared.attribute.ReferenceAttribute.TheVariants.{RegisterIf}
 use Rattle.td_ops.specs.declared.call.Call.{Call}
@@ -13,8 +13,8 @@ use Rattle.td_ops.specs.declared.outcome.Reply.TheVariants.{Reference}
 use Rattle.td_walk.specs.declared.answer.SubAnswer.{SubAnswer}
 use Rattle.td_walk.specs.declared.fault.PeerFault.{PeerFault}
 use Rattle.td_walk.specs.declared.fault.PeerFault.TheVariants as fault
-use Rattle.td_gather.specs.declared.gathered.Gathered.{Gathered}
-use Rattle.td_gather.specs.declared.gathered.Gathered.TheVariants.{Offers, Refused}
+use Rattle.td_remote_query.specs.declared.gathered.Gathered.{Gathered}
+use Rattle.td_remote_query.specs.declared.gathered.Gathered.TheVariants.{Offers, Refused}
 
 -- what an answer means, where there is one
 abbrev pub with_meaning : {A B : Type 0} → (A → Result B PeerFault) → Result A PeerFault

@@ -1,18 +1,18 @@
 -- The calls of a caller, as they are noted.
 use Rattle.std.specs.Prelude.{ℕ, List, [], ◌∷◌, map, Result, Ok, Err}
-use Rattle.td_out.specs.Causes.{raised}
+use Rattle.td_out.specs.Causes.{next_count}
 use Rattle.td_walk.specs.Noting.{call_of}
-use Rattle.td_walk.specs.Peering.{PeerCall, Exchange, Given}
+use Rattle.td_walk.specs.Peering.{PeerCall, Exchange, PeerAnswer}
 use Rattle.td_walk.specs.Peering.{Answered, Evaluated, Referred, Failed}
 use Rattle.td_walk.specs.declared.fault.PeerFault.{PeerFault}
 use Rattle.td_walk.specs.declared.fault.PeerFault.TheVariants as fault
-use Rattle.td_past.specs.Entries.{entries_of}
-use Rattle.td_past.specs.declared.past.Past.{Past}
+use Rattle.td_ghost_list.specs.Entries.{entries_of}
+use Rattle.td_ghost_list.specs.declared.past.Past.{Past}
 use Rattle.td_client.specs.declared.note.GaveNote.{GaveNote}
 use Rattle.td_client.specs.declared.note.GaveNote.TheVariants as gave
 use Rattle.td_client.specs.declared.note.Note.{Note}
 
-abbrev pub given_of : GaveNote → Given
+abbrev pub given_of : GaveNote → PeerAnswer
 given_of (gave.Offers a) = Answered a.value
 given_of (gave.Value v) = Evaluated v.value
 given_of (gave.Reference r) = Referred r.value
@@ -24,19 +24,19 @@ exchange_of n = record { call = call_of n.call; gave = given_of n.gave }
 abbrev pub exchanges : Past Note → List Exchange
 exchanges notes = map exchange_of (entries_of notes)
 
--- what a call that failed adds: one that wanted memory isn't noted
-abbrev pub failed : PeerCall → PeerFault → List Exchange
-failed c fault.Memory = []
-failed c fault.Wire = record { call = c; gave = Failed fault.Wire } ∷ []
-failed c fault.Grammar = record { call = c; gave = Failed fault.Grammar } ∷ []
-failed c fault.Exception = record { call = c; gave = Failed fault.Exception } ∷ []
+-- what a call that failed adds: one that ran out of memory isn't noted
+abbrev pub note_failure : PeerCall → PeerFault → List Exchange
+note_failure c fault.Memory = []
+note_failure c fault.Wire = record { call = c; gave = Failed fault.Wire } ∷ []
+note_failure c fault.Grammar = record { call = c; gave = Failed fault.Grammar } ∷ []
+note_failure c fault.Exception = record { call = c; gave = Failed fault.Exception } ∷ []
 
--- the caller's own count goes up by a fault other than want of memory
+-- the caller's own count goes up by a fault other than running out of memory
 abbrev pub count_fault : (count : ℕ) → PeerFault → ℕ
 count_fault count fault.Memory = count
-count_fault count fault.Wire = raised count
-count_fault count fault.Grammar = raised count
-count_fault count fault.Exception = raised count
+count_fault count fault.Wire = next_count count
+count_fault count fault.Grammar = next_count count
+count_fault count fault.Exception = next_count count
 
 abbrev pub count_after : {A : Type 0} → (count : ℕ) → Result A PeerFault → ℕ
 count_after count (Ok a) = count

@@ -1,19 +1,19 @@
 //! A caller of peers over a wire.
 
 ghost use Rattle.std.specs.Prelude.{◌≡◌, ◌≤◌, [], IfOk};
-ghost use Rattle.td_call.specs.Calling.{Called, first_id};
-ghost use Rattle.td_call.specs.Moving.{Leaves, StaysDisconnected};
-ghost use Rattle.td_call.specs.Readings.{outcome_told};
+ghost use Rattle.td_call.specs.Calling.{CallsObject, first_id};
+ghost use Rattle.td_call.specs.Moving.{LeavesTraffic, StaysDisconnected};
+ghost use Rattle.td_call.specs.Readings.{outcome_in_reply};
 ghost use Rattle.td_call.specs.Requests.{request_of};
 ghost use Rattle.td_client.specs.Noted.{count_after};
-ghost use Rattle.td_gather.specs.Asking.{Asks, GivesFitOffers};
-ghost use Rattle.td_gather.specs.Writing.{AskLeaves};
+ghost use Rattle.td_remote_query.specs.Querying.{QueriesTrader, GivesFitOffers};
+ghost use Rattle.td_remote_query.specs.Writing.{AskLeaves};
 
 use crate::calls::Calls;
 use std::alloc::Global;
 use td_call::call_over;
-use td_gather::{Gathered, ask_over};
 use td_ops::{Answered, Call, Query};
+use td_remote_query::{Gathered, ask_over};
 use td_value::Ior;
 use td_walk::PeerFault;
 use td_wire::Wire;
@@ -48,17 +48,19 @@ impl<L: Wire> Caller<L> {
     ///
     /// - `Wire` where the wire's count of faults rose, or its bytes ended before a message was whole.
     /// - `Grammar` where the object has no IIOP profile, or the bytes are no reply to the request.
-    /// - `Memory` for want of memory.
+    /// - `Memory` when out of memory.
     ///
     /// Each but `Memory` raises the caller's own count.
     pub fn call(&mut self, alloc: Global, target: &Ior, call: &Call) -> Result<Answered, PeerFault>
         ensures same { L.same self.old.wire self.new.wire }
-        ensures called { Called (outcome_told call.now) (λ p. request_of first_id p call.now)
-            target.now (L.told self.old.wire) (L.told self.new.wire) (L.faults self.old.wire)
+        ensures called { CallsObject (outcome_in_reply call.now)
+            (λ p. request_of first_id p call.now)
+            target.now (L.content self.old.wire) (L.content self.new.wire) (L.faults self.old.wire)
             (L.faults self.new.wire) result }
-        ensures leaves { Leaves (λ p. request_of first_id p call.now) target.now
-            (L.told self.old.wire) (L.told self.new.wire) }
-        ensures disconnected { StaysDisconnected (L.told self.old.wire) (L.told self.new.wire) }
+        ensures leaves { LeavesTraffic (λ p. request_of first_id p call.now) target.now
+            (L.content self.old.wire) (L.content self.new.wire) }
+        ensures disconnected { StaysDisconnected (L.content self.old.wire)
+            (L.content self.new.wire) }
         ensures calls { self.new.calls ≡ self.old.calls }
         ensures count { self.new.faults ≡ count_after self.old.faults result }
     {
@@ -67,10 +69,10 @@ impl<L: Wire> Caller<L> {
         answer
     }
 
-    /// Asks another trader: writes the query, and reads its reply. An iterator is drained by `next_n(1000)`, with request
-    /// ids 2, 3 and so on, and then destroyed: over the same connection where its profile names the trader's host, byte
-    /// by byte, and its port, and else over one more connection, to there. No connection stands when the query is done,
-    /// whatever comes of it.
+    /// Asks another trader: writes the query, and reads its reply. An iterator is drained by `next_n(1000)`, with
+    /// request ids 2, 3 and so on, and then destroyed: over the same connection where its profile names the trader's
+    /// host, byte by byte, and its port, and else over one more connection, to there. No connection stands when the
+    /// query is done, whatever comes of it.
     ///
     /// # Errors
     ///
@@ -78,10 +80,13 @@ impl<L: Wire> Caller<L> {
     /// without an IIOP profile are `Grammar`.
     pub fn ask(&mut self, alloc: Global, target: &Ior, q: &Query) -> Result<Gathered, PeerFault>
         ensures same { L.same self.old.wire self.new.wire }
-        ensures asks { Asks target.now q.now (L.told self.old.wire) (L.told self.new.wire)
+        ensures asks { QueriesTrader target.now q.now (L.content self.old.wire)
+            (L.content self.new.wire)
             (L.faults self.old.wire) (L.faults self.new.wire) result }
-        ensures leaves { AskLeaves target.now q.now (L.told self.old.wire) (L.told self.new.wire) }
-        ensures disconnected { StaysDisconnected (L.told self.old.wire) (L.told self.new.wire) }
+        ensures leaves { AskLeaves target.now q.now (L.content self.old.wire)
+            (L.content self.new.wire) }
+        ensures disconnected { StaysDisconnected (L.content self.old.wire)
+            (L.content self.new.wire) }
         ensures fit { IfOk result (λ g. GivesFitOffers g) }
         ensures calls { self.new.calls ≡ self.old.calls }
         ensures count { self.new.faults ≡ count_after self.old.faults result }

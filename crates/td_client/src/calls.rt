@@ -6,7 +6,7 @@ ghost use Rattle.td_walk.specs.Peering.{AdmitsExchanges, AdmitsGift};
 
 use crate::note::Note;
 use std::marker::Model;
-use td_past::Past;
+use td_ghost_list::Past;
 
 /// The calls that a visit made, in order, with what each gave, which can be written: clauses tell them, and the program
 /// keeps none.
@@ -18,9 +18,9 @@ pub(crate) struct Calls {
 impl Model for Calls {
     ghost use Rattle.std.specs.Coded.{coded_list};
     ghost use Rattle.std.specs.Prelude.{List};
-    ghost use Rattle.td_codes.specs.contracts.code.Any as any_row;
-    ghost use Rattle.td_codes.specs.contracts.code.TypeCode as code_row;
-    ghost use Rattle.td_codes.specs.contracts.reference.Ior as ior_row;
+    ghost use Rattle.td_typecode.specs.contracts.code.Any as any_row;
+    ghost use Rattle.td_typecode.specs.contracts.code.TypeCode as code_row;
+    ghost use Rattle.td_typecode.specs.contracts.reference.Ior as ior_row;
     ghost use Rattle.td_ops.specs.contracts.call.Query as query_row;
     ghost use Rattle.td_walk.specs.contracts.answer.SubAnswer as answer_row;
     ghost use Rattle.td_walk.specs.contracts.fault.PeerFault as fault_row;

@@ -10,4 +10,4 @@ mod peers;
 mod references;
 
 pub use caller::Caller;
-pub use td_gather::Gathered;
+pub use td_remote_query::Gathered;

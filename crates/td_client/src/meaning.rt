@@ -5,8 +5,8 @@ ghost use Rattle.td_client.specs.Meanings.{reference_meant, value_meant, offers_
 ghost use Rattle.td_ops.specs.declared.outcome.Answered.TheVariants.{Done};
 
 use td_cdr::Boxed;
-use td_gather::Gathered;
 use td_ops::{Answered, Reply};
+use td_remote_query::Gathered;
 use td_value::{Any, Ior};
 use td_walk::{PeerFault, SubAnswer};
 

@@ -2,12 +2,12 @@
 
 ghost use Rattle.std.specs.Prelude.{◌≡◌, ◌≤◌, ◌++◌, ◌∷◌, [], IfOk};
 ghost use Rattle.td_cdr.specs.Format.{Unless};
-ghost use Rattle.td_codes.specs.References.{reference};
-ghost use Rattle.td_codes.specs.Values.{any_value};
-ghost use Rattle.td_out.specs.Causes.{raised, Rose};
+ghost use Rattle.td_typecode.specs.References.{reference};
+ghost use Rattle.td_typecode.specs.Values.{any_value};
+ghost use Rattle.td_out.specs.Causes.{next_count, Rose};
 ghost use Rattle.td_walk.specs.Peering.{HasWritableOffers, IsNoted, Answered, Evaluated, Referred, Failed, is_memory};
 ghost use Rattle.td_walk.specs.Noting.{call_of};
-ghost use Rattle.td_client.specs.Noted.{count_after, count_fault, failed};
+ghost use Rattle.td_client.specs.Noted.{count_after, count_fault, note_failure};
 
 use crate::calls::Calls;
 use crate::note::{GaveNote, Note};
@@ -20,7 +20,7 @@ use td_walk::{CallNote, PeerFault, SubAnswer};
 fn keep_fault(calls: &mut Calls, faults: &mut u64, call: CallNote, fault: PeerFault)
     ensures noted { calls.new ≡ calls.old ++ record { call = call_of call; gave = Failed fault }
         ∷ [] }
-    ensures counted { faults.new ≡ raised faults.old }
+    ensures counted { faults.new ≡ next_count faults.old }
     ensures later { faults.old ≤ faults.new }
 {
     let note = Note {
@@ -31,9 +31,9 @@ fn keep_fault(calls: &mut Calls, faults: &mut u64, call: CallNote, fault: PeerFa
     *faults = faults.saturating_add(1);
 }
 
-/// Notes a call that failed; one that wanted memory isn't noted.
+/// Notes a call that failed; one that ran out of memory isn't noted.
 fn note_fault(calls: &mut Calls, faults: &mut u64, call: CallNote, fault: PeerFault)
-    ensures noted { calls.new ≡ calls.old ++ failed (call_of call) fault }
+    ensures noted { calls.new ≡ calls.old ++ note_failure (call_of call) fault }
     ensures later { faults.old ≤ faults.new }
     ensures cause { Unless (is_memory fault) (Rose faults.old faults.new) }
     ensures counted { faults.new ≡ count_fault faults.old fault }

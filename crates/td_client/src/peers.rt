@@ -1,18 +1,18 @@
 //! A caller as the peers of a visit.
 
 ghost use Rattle.std.specs.Prelude.{◌≡◌, ℕ, List, Option, Result, IfOk};
-ghost use Rattle.td_call.specs.Calling.{Called, first_id};
-ghost use Rattle.td_call.specs.Moving.{Leaves, StaysDisconnected};
-ghost use Rattle.td_call.specs.Readings.{outcome_told, evaluation_told};
+ghost use Rattle.td_call.specs.Calling.{CallsObject, first_id};
+ghost use Rattle.td_call.specs.Moving.{LeavesTraffic, StaysDisconnected};
+ghost use Rattle.td_call.specs.Readings.{outcome_in_reply, evaluation_in_reply};
 ghost use Rattle.td_call.specs.Requests.{request_of, evaluation_of};
 ghost use Rattle.td_client.specs.Meanings.{offers_meant, reference_meant, register_call, resolve_call, value_meant};
 ghost use Rattle.td_client.specs.Meanings.{with_meaning};
 ghost use Rattle.td_client.specs.Noted.{count_after};
-ghost use Rattle.td_codes.specs.References.{reference};
-ghost use Rattle.td_codes.specs.declared.code.Any.{Any};
-ghost use Rattle.td_gather.specs.Asking.{Asks};
-ghost use Rattle.td_gather.specs.Writing.{AskLeaves};
-ghost use Rattle.td_gather.specs.declared.gathered.Gathered.{Gathered as Given};
+ghost use Rattle.td_typecode.specs.References.{reference};
+ghost use Rattle.td_typecode.specs.declared.code.Any.{Any};
+ghost use Rattle.td_remote_query.specs.Querying.{QueriesTrader};
+ghost use Rattle.td_remote_query.specs.Writing.{AskLeaves};
+ghost use Rattle.td_remote_query.specs.declared.gathered.Gathered.{Gathered as Given};
 ghost use Rattle.td_ops.specs.declared.outcome.Answered.{Answered as Told};
 ghost use Rattle.td_walk.specs.declared.fault.PeerFault.{PeerFault};
 ghost use Rattle.td_walk.specs.Peering.{IsNoted, HasSmallOffers, Querying, Evaluating, RegisterOf, Resolving};
@@ -26,8 +26,8 @@ use std::alloc::Global;
 use std::snapshot::Snapshot;
 use td_call::evaluate_over;
 use td_cdr::{Boxed, List, Text};
-use td_gather::ask_over;
 use td_ops::Query;
+use td_remote_query::ask_over;
 use td_value::{Any, Ior, TypeCode};
 use td_walk::{CallNote, PeerFault, Peers, SubAnswer};
 use td_wire::Wire;
@@ -44,7 +44,7 @@ impl<L: Wire> Peers for Caller<L> {
     ghost same_on = { λ a b c p q. L.same_on a.wire b.wire c.wire p q };
 
     /// What the reply says, and what the iterator gives; an exception is a fault.
-    #[tactic(auto, using(td_gather::proofs::Writing::leaves_untouched))]
+    #[tactic(auto, using(td_remote_query::proofs::Writing::leaves_untouched))]
     fn query(&mut self, alloc: Global, target: &Ior, q: &Query) -> Result<SubAnswer, PeerFault>
         ensures same { L.same self.old.wire self.new.wire }
         ensures count { self.new.faults ≡ count_after self.old.faults result }
@@ -52,11 +52,14 @@ impl<L: Wire> Peers for Caller<L> {
             (Querying target.now q.now) self.old.calls self.new.calls self.old.faults
             self.new.faults result }
         ensures small { IfOk result (λ a. HasSmallOffers a) }
-        ensures exact { (r : Result Given PeerFault) × Asks target.now q.now (L.told self.old.wire)
-            (L.told self.new.wire) (L.faults self.old.wire) (L.faults self.new.wire) r
+        ensures exact { (r : Result Given PeerFault) × QueriesTrader target.now q.now
+            (L.content self.old.wire)
+            (L.content self.new.wire) (L.faults self.old.wire) (L.faults self.new.wire) r
             × (result ≡ with_meaning offers_meant r) }
-        ensures leaves { AskLeaves target.now q.now (L.told self.old.wire) (L.told self.new.wire) }
-        ensures disconnected { StaysDisconnected (L.told self.old.wire) (L.told self.new.wire) }
+        ensures leaves { AskLeaves target.now q.now (L.content self.old.wire)
+            (L.content self.new.wire) }
+        ensures disconnected { StaysDisconnected (L.content self.old.wire)
+            (L.content self.new.wire) }
     {
         let answer = offers_meant(ask_over(alloc, &mut self.wire, target, q));
         let call = CallNote::Query {
@@ -82,14 +85,17 @@ impl<L: Wire> Peers for Caller<L> {
         ensures noted { IsNoted (λ v. Evaluated v)
             (Evaluating evaluator.now name.now returned.now extra.now)
             self.old.calls self.new.calls self.old.faults self.new.faults result }
-        ensures exact { (r : Result (Option Any) PeerFault) × Called (evaluation_told returned.now)
+        ensures exact { (r : Result (Option Any) PeerFault)
+            × CallsObject (evaluation_in_reply returned.now)
             (λ p. evaluation_of first_id p name.now returned.now extra.now) evaluator.now
-            (L.told self.old.wire) (L.told self.new.wire) (L.faults self.old.wire)
+            (L.content self.old.wire) (L.content self.new.wire) (L.faults self.old.wire)
             (L.faults self.new.wire) r
             × (result ≡ with_meaning value_meant r) }
-        ensures leaves { Leaves (λ p. evaluation_of first_id p name.now returned.now extra.now)
-            evaluator.now (L.told self.old.wire) (L.told self.new.wire) }
-        ensures disconnected { StaysDisconnected (L.told self.old.wire) (L.told self.new.wire) }
+        ensures leaves { LeavesTraffic
+            (λ p. evaluation_of first_id p name.now returned.now extra.now)
+            evaluator.now (L.content self.old.wire) (L.content self.new.wire) }
+        ensures disconnected { StaysDisconnected (L.content self.old.wire)
+            (L.content self.new.wire) }
     {
         let answer = value_meant(evaluate_over(
             alloc,
@@ -118,13 +124,14 @@ impl<L: Wire> Peers for Caller<L> {
             (RegisterOf lookup.now) self.old.calls self.new.calls self.old.faults self.new.faults
             result }
         ensures admitted { IfOk result (λ r. reference.format.admits r) }
-        ensures exact { (r : Result Told PeerFault) × Called (outcome_told register_call)
-            (λ p. request_of first_id p register_call) lookup.now (L.told self.old.wire)
-            (L.told self.new.wire) (L.faults self.old.wire) (L.faults self.new.wire) r
+        ensures exact { (r : Result Told PeerFault) × CallsObject (outcome_in_reply register_call)
+            (λ p. request_of first_id p register_call) lookup.now (L.content self.old.wire)
+            (L.content self.new.wire) (L.faults self.old.wire) (L.faults self.new.wire) r
             × (result ≡ with_meaning reference_meant r) }
-        ensures leaves { Leaves (λ p. request_of first_id p register_call) lookup.now
-            (L.told self.old.wire) (L.told self.new.wire) }
-        ensures disconnected { StaysDisconnected (L.told self.old.wire) (L.told self.new.wire) }
+        ensures leaves { LeavesTraffic (λ p. request_of first_id p register_call) lookup.now
+            (L.content self.old.wire) (L.content self.new.wire) }
+        ensures disconnected { StaysDisconnected (L.content self.old.wire)
+            (L.content self.new.wire) }
     {
         let answer = reference_meant(ask_register(alloc, &mut self.wire, lookup));
         let call = CallNote::Register {
@@ -148,13 +155,17 @@ impl<L: Wire> Peers for Caller<L> {
             (Resolving register.now name.now) self.old.calls self.new.calls self.old.faults
             self.new.faults result }
         ensures admitted { IfOk result (λ r. reference.format.admits r) }
-        ensures exact { (r : Result Told PeerFault) × Called (outcome_told (resolve_call name.now))
-            (λ p. request_of first_id p (resolve_call name.now)) register.now (L.told self.old.wire)
-            (L.told self.new.wire) (L.faults self.old.wire) (L.faults self.new.wire) r
+        ensures exact { (r : Result Told PeerFault)
+            × CallsObject (outcome_in_reply (resolve_call name.now))
+            (λ p. request_of first_id p (resolve_call name.now)) register.now
+            (L.content self.old.wire)
+            (L.content self.new.wire) (L.faults self.old.wire) (L.faults self.new.wire) r
             × (result ≡ with_meaning reference_meant r) }
-        ensures leaves { Leaves (λ p. request_of first_id p (resolve_call name.now)) register.now
-            (L.told self.old.wire) (L.told self.new.wire) }
-        ensures disconnected { StaysDisconnected (L.told self.old.wire) (L.told self.new.wire) }
+        ensures leaves { LeavesTraffic (λ p. request_of first_id p (resolve_call name.now))
+            register.now
+            (L.content self.old.wire) (L.content self.new.wire) }
+        ensures disconnected { StaysDisconnected (L.content self.old.wire)
+            (L.content self.new.wire) }
     {
         let answer = reference_meant(ask_to_resolve(alloc, &mut self.wire, register, name));
         let call = CallNote::Resolution {

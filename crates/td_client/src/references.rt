@@ -1,9 +1,9 @@
 //! Calls that give a reference.
 
 ghost use Rattle.std.specs.Prelude.{◌≡◌, IfOk};
-ghost use Rattle.td_call.specs.Calling.{Called, first_id};
-ghost use Rattle.td_call.specs.Moving.{Leaves, StaysDisconnected};
-ghost use Rattle.td_call.specs.Readings.{AdmitsTold, outcome_told};
+ghost use Rattle.td_call.specs.Calling.{CallsObject, first_id};
+ghost use Rattle.td_call.specs.Moving.{LeavesTraffic, StaysDisconnected};
+ghost use Rattle.td_call.specs.Readings.{AdmitsAnswered, outcome_in_reply};
 ghost use Rattle.td_call.specs.Requests.{request_of};
 ghost use Rattle.td_client.specs.Meanings.{register_call, resolve_call};
 
@@ -26,13 +26,15 @@ pub(crate) fn ask_register<L: Wire>(
     lookup: &Ior,
 ) -> Result<Answered, PeerFault>
     ensures same { L.same wire.old wire.new }
-    ensures called { Called (outcome_told register_call) (λ p. request_of first_id p register_call)
-        lookup.now (L.told wire.old) (L.told wire.new) (L.faults wire.old)
+    ensures called { CallsObject (outcome_in_reply register_call)
+        (λ p. request_of first_id p register_call)
+        lookup.now (L.content wire.old) (L.content wire.new) (L.faults wire.old)
         (L.faults wire.new) result }
-    ensures admitted { IfOk result (λ a. AdmitsTold register_call a) }
-    ensures leaves { Leaves (λ p. request_of first_id p register_call) lookup.now (L.told wire.old)
-        (L.told wire.new) }
-    ensures disconnected { StaysDisconnected (L.told wire.old) (L.told wire.new) }
+    ensures admitted { IfOk result (λ a. AdmitsAnswered register_call a) }
+    ensures leaves { LeavesTraffic (λ p. request_of first_id p register_call) lookup.now
+        (L.content wire.old)
+        (L.content wire.new) }
+    ensures disconnected { StaysDisconnected (L.content wire.old) (L.content wire.new) }
 {
     let request = Call::Look(Look::Get(Attribute::Reference(ReferenceAttribute::RegisterIf)));
     let answer = call_over(alloc, wire, lookup, &request);
@@ -53,13 +55,13 @@ pub(crate) fn ask_to_resolve<L: Wire>(
     name: &List<Text>,
 ) -> Result<Answered, PeerFault>
     ensures same { L.same wire.old wire.new }
-    ensures called { Called (outcome_told (resolve_call name.now))
-        (λ p. request_of first_id p (resolve_call name.now)) register.now (L.told wire.old)
-        (L.told wire.new) (L.faults wire.old) (L.faults wire.new) result }
-    ensures admitted { IfOk result (λ a. AdmitsTold (resolve_call name.now) a) }
-    ensures leaves { Leaves (λ p. request_of first_id p (resolve_call name.now)) register.now
-        (L.told wire.old) (L.told wire.new) }
-    ensures disconnected { StaysDisconnected (L.told wire.old) (L.told wire.new) }
+    ensures called { CallsObject (outcome_in_reply (resolve_call name.now))
+        (λ p. request_of first_id p (resolve_call name.now)) register.now (L.content wire.old)
+        (L.content wire.new) (L.faults wire.old) (L.faults wire.new) result }
+    ensures admitted { IfOk result (λ a. AdmitsAnswered (resolve_call name.now) a) }
+    ensures leaves { LeavesTraffic (λ p. request_of first_id p (resolve_call name.now)) register.now
+        (L.content wire.old) (L.content wire.new) }
+    ensures disconnected { StaysDisconnected (L.content wire.old) (L.content wire.new) }
 {
     match name.copy(alloc) {
         Err(_) => Err(PeerFault::Memory),

@@ -1,32 +1,32 @@
 -- From what a number of traders comes to, to the command that names it.
 use Rattle.std.proofs.Common.{◌≡◌, ℕ, false, List, Option, Some, None, option_map, sym, ap, subst, ◌∙◌}
-use Rattle.td_make.specs.Generated.{generated}
+use Rattle.td_make.specs.Generated.{generated_file}
 use Rattle.td_stream.specs.Outside.{Outside}
 use Rattle.td_command.specs.Commands.{Command, Drill, Make, command_by, command_in, command_of, is_pipe}
 use Rattle.td_command.specs.Commands.{two_words, verb_named}
-use Rattle.td_command.specs.Printing.{DrillsWith, IsUnread, Prints, PrintsOf, sink_of}
-use Rattle.td_command.specs.Runs.{IsUnasked, Obeys, Seeded, Shelves}
+use Rattle.td_command.specs.Printing.{DrillsWith, IsUnread, PrintsOrNoMemory, PrintsOf, sink_of}
+use Rattle.td_command.specs.Runs.{IsUnasked, Obeys, WordsBySeeding, Shelves}
 use Rattle.td_command.specs.declared.ended.Ended.{Ended}
 use Rattle.td_command.specs.declared.ended.Ended.TheVariants.{Usage}
 use Rattle.td_command.specs.declared.verb.Verb.{Verb}
 
-pub by_make : (found : Option ℕ) (count : ℕ) (texts : Shelves) (seeded : Seeded) (ended : Ended)
+pub by_make : (found : Option ℕ) (count : ℕ) (texts : Shelves) (seeded : WordsBySeeding) (ended : Ended)
     (before after : Outside) → found ≡ Some count
-    → Prints (λ text. text ≡ generated count) ended (sink_of before) (sink_of after) → IsUnasked texts
+    → PrintsOrNoMemory (λ text. text ≡ generated_file count) ended (sink_of before) (sink_of after) → IsUnasked texts
     → IsUnread before after → Obeys (option_map Make found) texts seeded ended before after
 by_make found count texts seeded ended before after is prints unasked unread =
     subst (λ (o : Option ℕ). Obeys (option_map Make o) texts seeded ended before after) (sym is)
     (prints, unasked, unread)
 
-pub by_drill : (found : Option ℕ) (count : ℕ) (texts : Shelves) (seeded : Seeded) (ended : Ended)
+pub by_drill : (found : Option ℕ) (count : ℕ) (texts : Shelves) (seeded : WordsBySeeding) (ended : Ended)
     (before after : Outside) → found ≡ Some count
-    → PrintsOf (DrillsWith seeded) (generated count) ended (sink_of before) (sink_of after) → IsUnasked texts
+    → PrintsOf (DrillsWith seeded) (generated_file count) ended (sink_of before) (sink_of after) → IsUnasked texts
     → IsUnread before after → Obeys (option_map Drill found) texts seeded ended before after
 by_drill found count texts seeded ended before after is prints unasked unread =
     subst (λ (o : Option ℕ). Obeys (option_map Drill o) texts seeded ended before after) (sym is)
     (prints, unasked, unread)
 
-pub by_none : (command : ℕ → Command) (found : Option ℕ) (texts : Shelves) (seeded : Seeded) (ended : Ended)
+pub by_none : (command : ℕ → Command) (found : Option ℕ) (texts : Shelves) (seeded : WordsBySeeding) (ended : Ended)
     (before after : Outside) → found ≡ None → ended ≡ Usage → IsUnasked texts → after ≡ before
     → Obeys (option_map command found) texts seeded ended before after
 by_none command found texts seeded ended before after is usage unasked same =
@@ -35,7 +35,7 @@ by_none command found texts seeded ended before after is usage unasked same =
 
 -- the verb is read from the first of two words
 pub by_words : (words : List (List ℕ)) (word operand read : List ℕ) (found : Option Verb) (texts : Shelves)
-    (seeded : Seeded) (ended : Ended) (before after : Outside) → Some (word, operand) ≡ two_words words
+    (seeded : WordsBySeeding) (ended : Ended) (before after : Outside) → Some (word, operand) ≡ two_words words
     → found ≡ verb_named read → read ≡ word → Obeys (command_by found operand) texts seeded ended before after
     → Obeys (command_of words) texts seeded ended before after
 by_words words word operand read found texts seeded ended before after are is same obeys =

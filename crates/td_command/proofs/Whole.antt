@@ -9,14 +9,14 @@ use Rattle.td_out.specs.Texts.{HasText, longest_text}
 use Rattle.td_stream.specs.declared.end.End.{End}
 use Rattle.td_stream.specs.Completeness.{IsServable, NoneFailed}
 use Rattle.td_stream.specs.Outside.{Outside}
-use Rattle.td_trader.specs.Solos.{nothing, unchanged}
+use Rattle.td_trader.specs.Solos.{no_changes, same_marks}
 use Rattle.td_session.proofs.Complete.{complete}
 use Rattle.td_command.specs.declared.ended.Ended.{Ended}
 use Rattle.td_command.specs.declared.ended.Ended.TheVariants.{Usage, Missing, TooLong, Refused, Memory, Printed}
 use Rattle.td_command.specs.declared.ended.Ended.TheVariants.{PrintFault, Served}
 use Rattle.td_command.specs.Commands.{Pipe, command_of}
 use Rattle.td_command.specs.Completeness.{NamesOpening, NothingFailed, IsAnswered, Completes}
-use Rattle.td_command.specs.Runs.{Seeded, Shelves, ServesOpening, ServesText, ServesFile, Obeys, beginning}
+use Rattle.td_command.specs.Runs.{WordsBySeeding, Shelves, ServesOpening, ServesText, ServesFile, Obeys, first_scene}
 use Rattle.td_command.specs.Status.{status_of, end_status}
 
 some_same : (a b : List ℕ) → Some a ≡ Some b → a ≡ b
@@ -32,33 +32,33 @@ no_both a n why text e f = cc
 -- the text that is given is the one of that name
 given_text : (words : List (List ℕ)) (texts : Shelves) (o : Opening) (n : NamesOpening words texts o)
     (other : List ℕ)
-    → HasText texts.told n.name texts.before texts.after (Ok other) → other ≡ n.text
+    → HasText texts.content n.name texts.before texts.after (Ok other) → other ≡ n.text
 given_text words texts o n other has =
     let there : HasText (Some n.shelf) n.name texts.before texts.after (Ok other) =
-    subst (λ o. HasText o n.name texts.before texts.after (Ok other)) n.told has in
+    subst (λ o. HasText o n.name texts.before texts.after (Ok other)) n.content has in
     some_same other n.text (sym there.1 ∙ n.found)
 
 -- and it isn't too long
 short_text : (words : List (List ℕ)) (texts : Shelves) (o : Opening) (n : NamesOpening words texts o)
-    → HasText texts.told n.name texts.before texts.after (Err fault.TooLong) → ⊥
+    → HasText texts.content n.name texts.before texts.after (Err fault.TooLong) → ⊥
 short_text words texts o n has =
     let there : HasText (Some n.shelf) n.name texts.before texts.after (Err fault.TooLong) =
-    subst (λ o. HasText o n.name texts.before texts.after (Err fault.TooLong)) n.told has in
+    subst (λ o. HasText o n.name texts.before texts.after (Err fault.TooLong)) n.content has in
     let long : longest_text < length n.text = subst (λ o. IsSomeAnd o (λ t. longest_text < length t)) n.found there in
     omega (arith, long, n.size)
 
-session_answered : (o : Opening) (seeded : Seeded) (end : End) (before after : Outside) (stream : List ℕ)
+session_answered : (o : Opening) (seeded : WordsBySeeding) (end : End) (before after : Outside) (stream : List ℕ)
     (messages : List (List ℕ))
     → ServesOpening o seeded end before after → before.left ≡ Some stream → IsServable stream messages
     → NoneFailed before after → IsAnswered o seeded before after messages (end_status end)
 session_answered o seeded end before after stream messages s input servable unhurt =
-    elim (complete nothing unchanged o.home (beginning o seeded) s.later s.journal end before after s.serves stream
+    elim (complete no_changes same_marks o.home (first_scene o seeded) s.later s.journal end before after s.serves stream
     messages input servable unhurt) [
       | inl closed ↦ inl (ap end_status closed.0, s.later, closed.1)
       | inr memory ↦ inr (ap end_status memory)
     ]
 
-text_answered : (o : Opening) (seeded : Seeded) (text : List ℕ) (ended : Ended) (before after : Outside)
+text_answered : (o : Opening) (seeded : WordsBySeeding) (text : List ℕ) (ended : Ended) (before after : Outside)
     (stream : List ℕ) (messages : List (List ℕ))
     → opening_of text ≡ Ok o → ServesText text seeded ended before after → before.left ≡ Some stream
     → IsServable stream messages → NoneFailed before after → IsAnswered o seeded before after messages (status_of ended)
@@ -76,7 +76,7 @@ text_answered o seeded text TooLong before after stream messages accepted h inpu
 text_answered o seeded text Printed before after stream messages accepted h input servable unhurt = absurd h
 text_answered o seeded text PrintFault before after stream messages accepted h input servable unhurt = absurd h
 
-of_text : (o : Opening) (seeded : Seeded) (text other : List ℕ) (ended : Ended) (before after : Outside)
+of_text : (o : Opening) (seeded : WordsBySeeding) (text other : List ℕ) (ended : Ended) (before after : Outside)
     (stream : List ℕ) (messages : List (List ℕ))
     → opening_of text ≡ Ok o → other ≡ text → ServesText other seeded ended before after → before.left ≡ Some stream
     → IsServable stream messages → NoneFailed before after → IsAnswered o seeded before after messages (status_of ended)
@@ -84,7 +84,7 @@ of_text o seeded text other ended before after stream messages accepted same h =
     text_answered o seeded text ended before after stream messages accepted
     (subst (λ (t : List ℕ). ServesText t seeded ended before after) same h)
 
-file_answered : (words : List (List ℕ)) (texts : Shelves) (seeded : Seeded) (o : Opening)
+file_answered : (words : List (List ℕ)) (texts : Shelves) (seeded : WordsBySeeding) (o : Opening)
     (n : NamesOpening words texts o) (ended : Ended) (before after : Outside) (stream : List ℕ)
     (messages : List (List ℕ))
     → ServesFile texts n.name seeded ended before after → before.left ≡ Some stream → IsServable stream messages
@@ -104,7 +104,7 @@ file_answered words texts seeded o n Usage before after stream messages h input 
 file_answered words texts seeded o n Printed before after stream messages h input servable unhurt = absurd h
 file_answered words texts seeded o n PrintFault before after stream messages h input servable unhurt = absurd h
 
-pub answered : (words : List (List ℕ)) (texts : Shelves) (seeded : Seeded) (ended : Ended) (before after : Outside)
+pub answered : (words : List (List ℕ)) (texts : Shelves) (seeded : WordsBySeeding) (ended : Ended) (before after : Outside)
     (status : ℕ)
     → status ≡ status_of ended → Obeys (command_of words) texts seeded ended before after
     → Completes words texts seeded before after status

@@ -9,8 +9,8 @@ use Rattle.td_out.specs.Causes.{Rose}
 use Rattle.td_out.specs.Texts.{HasText, longest_text}
 use Rattle.td_out.specs.declared.fault.TextFault.TheVariants as fault
 use Rattle.td_stream.specs.Outside.{Outside}
-use Rattle.td_out.specs.Told.{Tells}
-use Rattle.td_command.specs.Seeds.{Seeded, seeding_of}
+use Rattle.td_out.specs.SinkTexts.{GivesText}
+use Rattle.td_command.specs.Seeds.{WordsBySeeding, seeding_of}
 use Rattle.td_command.specs.Shelves.{Shelves}
 use Rattle.td_command.specs.declared.ended.Ended.{Ended}
 use Rattle.td_command.specs.declared.ended.Ended.TheVariants.{Usage, Missing, TooLong, Refused, Memory, Printed}
@@ -38,7 +38,7 @@ abbrev pub PrintsText : (text : List ℕ) → Ended → SinkSeen → SinkSeen �
 PrintsText text Printed before after = Appends before.written after.written text
     × (before.faults ≤ after.faults)
 PrintsText text PrintFault before after =
-    Tells text before.written after.written before.faults after.faults
+    GivesText text before.written after.written before.faults after.faults
     × Rose before.faults after.faults
 PrintsText text Usage before after = ⊥
 PrintsText text Missing before after = ⊥
@@ -47,18 +47,18 @@ PrintsText text (Refused number cause) before after = ⊥
 PrintsText text Memory before after = ⊥
 PrintsText text (Served end) before after = ⊥
 
--- so it is with a text that is said, or nothing is printed for want of memory
-abbrev pub Prints : (Says : List ℕ → Type 0) → Ended → SinkSeen → SinkSeen → Type 0
-Prints Says Printed before after = (text : List ℕ) × Says text
+-- so it is with a text that is said, or nothing is printed when out of memory
+abbrev pub PrintsOrNoMemory : (Says : List ℕ → Type 0) → Ended → SinkSeen → SinkSeen → Type 0
+PrintsOrNoMemory Says Printed before after = (text : List ℕ) × Says text
     × PrintsText text Printed before after
-Prints Says PrintFault before after = (text : List ℕ) × Says text
+PrintsOrNoMemory Says PrintFault before after = (text : List ℕ) × Says text
     × PrintsText text PrintFault before after
-Prints Says Memory before after = after ≡ before
-Prints Says Usage before after = ⊥
-Prints Says Missing before after = ⊥
-Prints Says TooLong before after = ⊥
-Prints Says (Refused number cause) before after = ⊥
-Prints Says (Served end) before after = ⊥
+PrintsOrNoMemory Says Memory before after = after ≡ before
+PrintsOrNoMemory Says Usage before after = ⊥
+PrintsOrNoMemory Says Missing before after = ⊥
+PrintsOrNoMemory Says TooLong before after = ⊥
+PrintsOrNoMemory Says (Refused number cause) before after = ⊥
+PrintsOrNoMemory Says (Served end) before after = ⊥
 
 -- ---- a text that is said of what a file opens
 
@@ -66,9 +66,9 @@ Prints Says (Served end) before after = ⊥
 abbrev pub PrintsOf : (Says : Opening → List ℕ → Type 0) → (text : List ℕ) → Ended → SinkSeen
     → SinkSeen → Type 0
 PrintsOf Says text Printed before after =
-    (o : Opening) × (opening_of text ≡ Ok o) × Prints (Says o) Printed before after
+    (o : Opening) × (opening_of text ≡ Ok o) × PrintsOrNoMemory (Says o) Printed before after
 PrintsOf Says text PrintFault before after =
-    (o : Opening) × (opening_of text ≡ Ok o) × Prints (Says o) PrintFault before after
+    (o : Opening) × (opening_of text ≡ Ok o) × PrintsOrNoMemory (Says o) PrintFault before after
 PrintsOf Says text (Refused number cause) before after =
     (opening_of text ≡ Err (refusal number cause)) × (after ≡ before)
 PrintsOf Says text TooLong before after = (longest_text < length text) × (after ≡ before)
@@ -81,18 +81,18 @@ PrintsOf Says text (Served end) before after = ⊥
 abbrev pub PrintsFile : (Says : Opening → List ℕ → Type 0) → Shelves → (name : List ℕ) → Ended
     → SinkSeen → SinkSeen → Type 0
 PrintsFile Says texts name Printed before after =
-    (text : List ℕ) × HasText texts.told name texts.before texts.after (Ok text)
+    (text : List ℕ) × HasText texts.content name texts.before texts.after (Ok text)
     × PrintsOf Says text Printed before after
 PrintsFile Says texts name PrintFault before after =
-    (text : List ℕ) × HasText texts.told name texts.before texts.after (Ok text)
+    (text : List ℕ) × HasText texts.content name texts.before texts.after (Ok text)
     × PrintsOf Says text PrintFault before after
 PrintsFile Says texts name (Refused number cause) before after =
-    (text : List ℕ) × HasText texts.told name texts.before texts.after (Ok text)
+    (text : List ℕ) × HasText texts.content name texts.before texts.after (Ok text)
     × PrintsOf Says text (Refused number cause) before after
 PrintsFile Says texts name Missing before after =
-    HasText texts.told name texts.before texts.after (Err fault.Failed) × (after ≡ before)
+    HasText texts.content name texts.before texts.after (Err fault.Failed) × (after ≡ before)
 PrintsFile Says texts name TooLong before after =
-    HasText texts.told name texts.before texts.after (Err fault.TooLong) × (after ≡ before)
+    HasText texts.content name texts.before texts.after (Err fault.TooLong) × (after ≡ before)
 PrintsFile Says texts name Memory before after = after ≡ before
 PrintsFile Says texts name Usage before after = ⊥
 PrintsFile Says texts name (Served end) before after = ⊥
@@ -104,5 +104,5 @@ abbrev pub Checks : Opening → List ℕ → Type 0
 Checks o text = text ≡ check_lines o
 
 -- of one whose traders are drilled, the drill's line
-abbrev pub DrillsWith : Seeded → Opening → List ℕ → Type 0
+abbrev pub DrillsWith : WordsBySeeding → Opening → List ℕ → Type 0
 DrillsWith seeded o text = Drills (seeded (seeding_of o)) o.home o.traders text

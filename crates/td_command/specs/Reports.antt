@@ -7,12 +7,12 @@ use Rattle.td_command.specs.declared.ended.Ended.{Ended}
 use Rattle.td_command.specs.declared.ended.Ended.TheVariants.{Usage, Missing, TooLong, Refused, Memory, Printed}
 use Rattle.td_command.specs.declared.ended.Ended.TheVariants.{PrintFault, Served}
 
-abbrev pub numbered : List ℕ → ℕ → List ℕ → List ℕ
-numbered before number after = before ++ decimal number ++ after
+abbrev pub with_number : List ℕ → ℕ → List ℕ → List ℕ
+with_number before number after = before ++ decimal number ++ after
 
 -- `status N`, N being 4 or more
 abbrev pub status_line : ℕ → List ℕ
-status_line status = numbered (codes "status ") status (codes "\n")
+status_line status = with_number (codes "status ") status (codes "\n")
 
 -- what follows the number of a refused line
 abbrev pub cause_end : LineCause → List ℕ
@@ -30,7 +30,7 @@ abbrev pub line_of : Ended → List ℕ
 line_of Usage = codes "usage\n"
 line_of Missing = status_line 10
 line_of TooLong = codes "too long\n"
-line_of (Refused number why) = numbered (codes "line ") number (cause_end why)
+line_of (Refused number why) = with_number (codes "line ") number (cause_end why)
 line_of Memory = status_line 9
 line_of Printed = []
 line_of PrintFault = status_line 7

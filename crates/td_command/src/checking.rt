@@ -1,7 +1,7 @@
 //! What a file opens, printed.
 
 ghost use Rattle.std.specs.Prelude.{◌≤◌, length};
-ghost use Rattle.td_command.specs.Printing.{Checks, Prints, PrintsFile, PrintsOf, sink_seen};
+ghost use Rattle.td_command.specs.Printing.{Checks, PrintsOrNoMemory, PrintsFile, PrintsOf, sink_seen};
 ghost use Rattle.td_command.specs.Shelves.{shelves};
 ghost use Rattle.td_file.specs.Files.{seen};
 ghost use Rattle.td_objects.specs.References.{IsAddress};
@@ -20,7 +20,7 @@ pub(crate) fn check_file<F: Texts, K: Sink>(
     files: &mut F,
     sink: &mut K,
 ) -> Ended
-    ensures prints { PrintsFile Checks (shelves (F.told files.old) (F.faults files.old)
+    ensures prints { PrintsFile Checks (shelves (F.content files.old) (F.faults files.old)
         (F.faults files.new)) name.now result (sink_seen (K.written sink.old) (K.faults sink.old))
         (sink_seen (K.written sink.new) (K.faults sink.new)) }
     ensures later { F.faults files.old ≤ F.faults files.new }
@@ -49,7 +49,7 @@ fn check_text<K: Sink>(alloc: Global, text: &[u8], sink: &mut K) -> Ended
 /// Prints what is opened.
 fn check_opened<K: Sink>(alloc: Global, opened: Opened, sink: &mut K) -> Ended
     requires { IsAddress opened.home }
-    ensures { Prints (Checks (seen opened)) result
+    ensures { PrintsOrNoMemory (Checks (seen opened)) result
         (sink_seen (K.written sink.old) (K.faults sink.old))
         (sink_seen (K.written sink.new) (K.faults sink.new)) }
 {

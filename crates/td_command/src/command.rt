@@ -5,7 +5,7 @@ ghost use Rattle.std.specs.Option.{option_map};
 ghost use Rattle.td_stream.specs.Outside.{outside};
 ghost use Rattle.td_command.specs.Commands.{command_by, command_of, is_pipe, two_words};
 ghost use Rattle.td_command.specs.Completeness.{Completes};
-ghost use Rattle.td_command.specs.Runs.{Obeys, Runs, shelves};
+ghost use Rattle.td_command.specs.Runs.{Obeys, RunsServer, shelves};
 
 use crate::checking::check_file;
 use crate::drilling::drill_ring;
@@ -35,7 +35,7 @@ use td_wire::Wire;
 ///
 /// The status is 0 where the session was closed or all was printed, 2 where the arguments are no command, 3 where the
 /// file is refused or too long, 4 where the session broke off, 5 where its input ended inside a message, 6 where the
-/// source failed, 7 where the sink failed, 8 where the session was too long, 9 for want of memory, and 10 where the
+/// source failed, 7 where the sink failed, 8 where the session was too long, 9 when out of memory, and 10 where the
 /// file can't be had. It is 0 or 9 where the file is accepted, the input is messages to a server, and nothing fails.
 pub fn run<F: Texts, S: Source, K: Sink, E: Sink, L: Wire, W: Words>(
     alloc: Global,
@@ -47,21 +47,21 @@ pub fn run<F: Texts, S: Source, K: Sink, E: Sink, L: Wire, W: Words>(
     wire: &mut L,
     words: &mut W,
 ) -> u8
-    ensures runs { Runs (map string_bytes args.now)
-        (shelves (F.told files.old) (F.faults files.old) (F.faults files.new))
+    ensures runs { RunsServer (map string_bytes args.now)
+        (shelves (F.content files.old) (F.faults files.old) (F.faults files.new))
         (W.word_after words.old)
         (outside (S.left source.old) (S.faults source.old) (K.written sink.old) (K.faults sink.old))
         (outside (S.left source.new) (S.faults source.new) (K.written sink.new) (K.faults sink.new))
         (E.written faults.old) (E.written faults.new) (E.faults faults.old)
         (E.faults faults.new) result }
     ensures complete { Completes (map string_bytes args.now)
-        (shelves (F.told files.old) (F.faults files.old) (F.faults files.new))
+        (shelves (F.content files.old) (F.faults files.old) (F.faults files.new))
         (W.word_after words.old)
         (outside (S.left source.old) (S.faults source.old) (K.written sink.old) (K.faults sink.old))
         (outside (S.left source.new) (S.faults source.new) (K.written sink.new) (K.faults sink.new))
         result }
     ensures uncalled { is_pipe (command_of (map string_bytes args.now)) ≡ false
-        → (L.told wire.new ≡ L.told wire.old) × (L.faults wire.new ≡ L.faults wire.old) }
+        → (L.content wire.new ≡ L.content wire.old) × (L.faults wire.new ≡ L.faults wire.old) }
 {
     let ended = obey(alloc, args, files, source, sink, wire, words);
     report(faults, ended);
@@ -80,13 +80,13 @@ fn obey<F: Texts, S: Source, K: Sink, L: Wire, W: Words>(
     words: &mut W,
 ) -> Ended
     ensures obeys { Obeys (command_of (map string_bytes args.now))
-        (shelves (F.told files.old) (F.faults files.old) (F.faults files.new))
+        (shelves (F.content files.old) (F.faults files.old) (F.faults files.new))
         (W.word_after words.old) result (outside (S.left source.old) (S.faults source.old)
         (K.written sink.old) (K.faults sink.old))
         (outside (S.left source.new) (S.faults source.new) (K.written sink.new)
         (K.faults sink.new)) }
     ensures uncalled { is_pipe (command_of (map string_bytes args.now)) ≡ false
-        → (L.told wire.new ≡ L.told wire.old) × (L.faults wire.new ≡ L.faults wire.old) }
+        → (L.content wire.new ≡ L.content wire.old) × (L.faults wire.new ≡ L.faults wire.old) }
 {
     match two_words(args) {
         Some((word, operand)) => {
@@ -120,13 +120,13 @@ fn obey_verb<F: Texts, S: Source, K: Sink, L: Wire, W: Words>(
     words: &mut W,
 ) -> Ended
     ensures obeys { Obeys (command_by verb operand.now)
-        (shelves (F.told files.old) (F.faults files.old) (F.faults files.new))
+        (shelves (F.content files.old) (F.faults files.old) (F.faults files.new))
         (W.word_after words.old) result (outside (S.left source.old) (S.faults source.old)
         (K.written sink.old) (K.faults sink.old))
         (outside (S.left source.new) (S.faults source.new) (K.written sink.new)
         (K.faults sink.new)) }
     ensures uncalled { is_pipe (command_by verb operand.now) ≡ false
-        → (L.told wire.new ≡ L.told wire.old) × (L.faults wire.new ≡ L.faults wire.old) }
+        → (L.content wire.new ≡ L.content wire.old) × (L.faults wire.new ≡ L.faults wire.old) }
 {
     match verb {
         Some(Verb::Pipe) => serve_file(alloc, operand, files, source, sink, wire, words),

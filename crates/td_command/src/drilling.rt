@@ -1,9 +1,9 @@
 //! A drill of a ring of traders, printed.
 
 ghost use Rattle.std.specs.Prelude.{◌≡◌, ◌≤◌, length};
-ghost use Rattle.td_command.specs.Printing.{DrillsWith, Prints, PrintsOf, sink_seen};
+ghost use Rattle.td_command.specs.Printing.{DrillsWith, PrintsOrNoMemory, PrintsOf, sink_seen};
 ghost use Rattle.td_file.specs.Files.{seen};
-ghost use Rattle.td_make.specs.Generated.{generated};
+ghost use Rattle.td_make.specs.Generated.{generated_file};
 
 use crate::ended::Ended;
 use crate::printing::print;
@@ -25,7 +25,7 @@ pub(crate) fn drill_ring<K: Sink, W: Words>(
 ) -> Ended
     requires least { 1 ≤ count }
     requires most { count ≤ 64 }
-    ensures { PrintsOf (DrillsWith (W.word_after words.old)) (generated count) result
+    ensures { PrintsOf (DrillsWith (W.word_after words.old)) (generated_file count) result
         (sink_seen (K.written sink.old) (K.faults sink.old))
         (sink_seen (K.written sink.new) (K.faults sink.new)) }
 {
@@ -59,7 +59,7 @@ fn drill_opened<K: Sink, W: Words>(
     words: &mut W,
 ) -> Ended
     requires { length opened.seed ≡ 32 }
-    ensures { Prints (DrillsWith (W.word_after words.old) (seen opened)) result
+    ensures { PrintsOrNoMemory (DrillsWith (W.word_after words.old) (seen opened)) result
         (sink_seen (K.written sink.old) (K.faults sink.old))
         (sink_seen (K.written sink.new) (K.faults sink.new)) }
 {

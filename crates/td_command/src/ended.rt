@@ -17,7 +17,7 @@ pub enum Ended {
     TooLong,
     /// The file is refused at the line of this number, counted from 1, and why.
     Refused(u32, LineCause),
-    /// Want of memory, before a session began or anything was printed.
+    /// Out of memory, before a session began or anything was printed.
     Memory,
     /// All was printed.
     Printed,

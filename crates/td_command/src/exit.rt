@@ -6,9 +6,9 @@ ghost use Rattle.td_stream.specs.Outside.{outside};
 ghost use Rattle.td_command.specs.Commands.{command_of, is_pipe};
 ghost use Rattle.td_command.specs.Completeness.{Completes};
 ghost use Rattle.td_command.specs.Reports.{line_of};
-ghost use Rattle.td_command.specs.Runs.{Runs, shelves};
+ghost use Rattle.td_command.specs.Runs.{RunsServer, shelves};
 ghost use Rattle.td_command.specs.Status.{status_of};
-ghost use Rattle.td_out.specs.Told.{Tells};
+ghost use Rattle.td_out.specs.SinkTexts.{GivesText};
 
 use crate::command::run;
 use crate::ended::Ended;
@@ -33,28 +33,28 @@ pub fn run_program<F: Texts, S: Source, K: Sink, E: Sink, L: Wire, W: Words>(
     wire: &mut L,
     words: &mut W,
 ) -> ExitCode
-    ensures runs { Runs (map string_bytes args.now)
-        (shelves (F.told files.old) (F.faults files.old) (F.faults files.new))
+    ensures runs { RunsServer (map string_bytes args.now)
+        (shelves (F.content files.old) (F.faults files.old) (F.faults files.new))
         (W.word_after words.old)
         (outside (S.left source.old) (S.faults source.old) (K.written sink.old) (K.faults sink.old))
         (outside (S.left source.new) (S.faults source.new) (K.written sink.new) (K.faults sink.new))
         (E.written faults.old) (E.written faults.new) (E.faults faults.old) (E.faults faults.new)
         (exit_status result) }
     ensures complete { Completes (map string_bytes args.now)
-        (shelves (F.told files.old) (F.faults files.old) (F.faults files.new))
+        (shelves (F.content files.old) (F.faults files.old) (F.faults files.new))
         (W.word_after words.old)
         (outside (S.left source.old) (S.faults source.old) (K.written sink.old) (K.faults sink.old))
         (outside (S.left source.new) (S.faults source.new) (K.written sink.new) (K.faults sink.new))
         (exit_status result) }
     ensures uncalled { is_pipe (command_of (map string_bytes args.now)) ≡ false
-        → (L.told wire.new ≡ L.told wire.old) × (L.faults wire.new ≡ L.faults wire.old) }
+        → (L.content wire.new ≡ L.content wire.old) × (L.faults wire.new ≡ L.faults wire.old) }
 {
     ExitCode::from(run(alloc, args, files, source, sink, faults, wire, words))
 }
 
 /// What the program does whose arguments can't be had: the line and the status for it.
 pub fn refuse_arguments<E: Sink>(faults: &mut E, ended: Ended) -> ExitCode
-    ensures reported { Tells (line_of ended) (E.written faults.old) (E.written faults.new)
+    ensures reported { GivesText (line_of ended) (E.written faults.old) (E.written faults.new)
         (E.faults faults.old) (E.faults faults.new) }
     ensures status { exit_status result ≡ status_of ended }
 {
@@ -96,7 +96,7 @@ pub fn start<
 ///
 /// # Errors
 ///
-/// An error of kind `OutOfMemory` for want of memory, and another where one of them isn't text.
+/// An error of kind `OutOfMemory` when out of memory, and another where one of them isn't text.
 pub fn arguments<R: Env + AllocGlobal>(rt: &R) -> io::Result<Vec<String>> {
     let mut args = Vec::new(rt.alloc());
     for word in env::args(rt)?.skip(1) {
@@ -105,7 +105,7 @@ pub fn arguments<R: Env + AllocGlobal>(rt: &R) -> io::Result<Vec<String>> {
     Ok(args)
 }
 
-/// How the program ends that can't have its arguments: for want of memory, or since one isn't text, so that they
+/// How the program ends that can't have its arguments: when out of memory, or since one isn't text, so that they
 /// are no command.
 fn without_arguments(e: &io::Error) -> Ended {
     if e.kind() == ErrorKind::OutOfMemory {

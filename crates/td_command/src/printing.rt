@@ -1,8 +1,8 @@
 //! Texts that commands print.
 
 ghost use Rattle.std.specs.Prelude.{◌≡◌, ◌≤◌};
-ghost use Rattle.td_command.specs.Printing.{Prints, PrintsText, sink_seen};
-ghost use Rattle.td_make.specs.Generated.{generated};
+ghost use Rattle.td_command.specs.Printing.{PrintsOrNoMemory, PrintsText, sink_seen};
+ghost use Rattle.td_make.specs.Generated.{generated_file};
 
 use crate::ended::Ended;
 use std::alloc::Global;
@@ -24,7 +24,7 @@ pub(crate) fn print<K: Sink>(sink: &mut K, text: &[u8]) -> Ended
 pub(crate) fn print_file<K: Sink>(alloc: Global, count: u32, sink: &mut K) -> Ended
     requires least { 1 ≤ count }
     requires most { count ≤ 64 }
-    ensures { Prints (λ text. text ≡ generated count) result
+    ensures { PrintsOrNoMemory (λ text. text ≡ generated_file count) result
         (sink_seen (K.written sink.old) (K.faults sink.old))
         (sink_seen (K.written sink.new) (K.faults sink.new)) }
 {

@@ -1,8 +1,8 @@
 //! The line that a command leaves on the faults sink.
 
 ghost use Rattle.std.specs.Prelude.{◌≡◌};
-ghost use Rattle.td_command.specs.Reports.{cause_end, line_of, status_line, numbered};
-ghost use Rattle.td_out.specs.Told.{Tells};
+ghost use Rattle.td_command.specs.Reports.{cause_end, line_of, status_line, with_number};
+ghost use Rattle.td_out.specs.SinkTexts.{GivesText};
 
 use crate::ended::Ended;
 use itoa::Buffer;
@@ -12,7 +12,7 @@ use td_session::End;
 
 /// Writes the line for a command that ended so. Where the sink fails, the rest of the line is lost.
 pub fn report<E: Sink>(faults: &mut E, ended: Ended)
-    ensures { Tells (line_of ended) (E.written faults.old) (E.written faults.new)
+    ensures { GivesText (line_of ended) (E.written faults.old) (E.written faults.new)
         (E.faults faults.old) (E.faults faults.new) }
 {
     let _ = match ended {
@@ -54,7 +54,8 @@ pub fn write_numbered<E: Sink>(
     number: u32,
     after: &[u8],
 ) -> Result<(), Failed>
-    ensures { Tells (numbered before.now number after.now) (E.written sink.old) (E.written sink.new)
+    ensures { GivesText (with_number before.now number after.now) (E.written sink.old)
+        (E.written sink.new)
         (E.faults sink.old) (E.faults sink.new) }
 {
     let mut buffer = Buffer::new();

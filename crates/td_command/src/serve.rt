@@ -26,7 +26,7 @@ pub fn serve_file<F: Texts, S: Source, K: Sink, L: Wire, W: Words>(
     wire: &mut L,
     words: &mut W,
 ) -> Ended
-    ensures serves { ServesFile (shelves (F.told files.old) (F.faults files.old)
+    ensures serves { ServesFile (shelves (F.content files.old) (F.faults files.old)
         (F.faults files.new)) name.now (W.word_after words.old) result
         (outside (S.left source.old) (S.faults source.old) (K.written sink.old) (K.faults sink.old))
         (outside (S.left source.new) (S.faults source.new) (K.written sink.new)

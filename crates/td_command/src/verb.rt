@@ -41,7 +41,7 @@ pub(crate) fn verb_named(word: &[u8]) -> Option<Verb>
 /// The same number, but for 0.
 fn from_one(count: u64) -> Option<u32>
     requires { count ≤ 64 }
-    ensures told { result ≡ from_one count }
+    ensures content { result ≡ from_one count }
     ensures within { IfSome result (λ n. (1 ≤ n) × (n ≤ 64)) }
 {
     if count == 0 { None } else { Some(count as u32) }
@@ -49,7 +49,7 @@ fn from_one(count: u64) -> Option<u32>
 
 /// The number of traders that a word tells: from 1 to 64, in decimal without leading zeros.
 pub fn count_of(word: &[u8]) -> Option<u32>
-    ensures told { result ≡ count_of word.now }
+    ensures content { result ≡ count_of word.now }
     ensures within { IfSome result (λ n. (1 ≤ n) × (n ≤ 64)) }
 {
     match number_up_to(word, 64) {

@@ -9,7 +9,7 @@ use Rattle.td_cdr.specs.Format.{value_named}
 use Rattle.td_command.specs.Commands.{Command, Drill, Make, Pipe, Check, command_by, command_in, command_of, count_of}
 use Rattle.td_command.specs.Commands.{from_one, two_words, verb_name, verb_named, verbs}
 use Rattle.td_command.specs.Printing.{DrillsWith, PrintsOf, SinkSeen}
-use Rattle.td_command.specs.Runs.{Obeys, Runs, Seeded, Shelves}
+use Rattle.td_command.specs.Runs.{Obeys, RunsServer, WordsBySeeding, Shelves}
 use Rattle.td_command.specs.Status.{status_of}
 use Rattle.td_command.specs.declared.ended.Ended.{Ended}
 use Rattle.td_command.specs.declared.ended.Ended.TheVariants.{Usage, Missing, TooLong, Refused, Memory, Printed}
@@ -19,8 +19,8 @@ use Rattle.td_ior.specs.Keys.{◌>>=◌}
 use Rattle.td_ior.specs.Number.{number_after, number_below, numeral}
 use Rattle.td_lines.specs.Steps.{refusal}
 use Rattle.td_lines.specs.declared.cause.LineCause.{LineCause}
-use Rattle.td_make.specs.Generated.{generated}
-use Rattle.td_make_file_laws.specs.Opened.{GeneratedOpen, Opens}
+use Rattle.td_make.specs.Generated.{generated_file}
+use Rattle.td_make_file_laws.specs.Opened.{GeneratedOpen, GeneratedOpens}
 use Rattle.td_stream.specs.Outside.{Outside}
 
 -- ---- the number of a drill's traders is from 1 to 64
@@ -105,13 +105,13 @@ in-range words count h = by_words (two_words words) h
 
 -- ---- how it ends
 
-refused : (count n : ℕ) (cause : LineCause) → Opens count → opening_of (generated count) ≡ Err (refusal n cause) → ⊥
+refused : (count n : ℕ) (cause : LineCause) → GeneratedOpens count → opening_of (generated_file count) ≡ Err (refusal n cause) → ⊥
 refused count n cause o h =
-    let opened : opening_of (generated count) ≡ Ok o.opening = o.opened in
+    let opened : opening_of (generated_file count) ≡ Ok o.opening = o.opened in
     cc
 
-ends : (count : ℕ) (seeded : Seeded) (ended : Ended) (before after : SinkSeen) → Opens count
-    → PrintsOf (DrillsWith seeded) (generated count) ended before after
+ends : (count : ℕ) (seeded : WordsBySeeding) (ended : Ended) (before after : SinkSeen) → GeneratedOpens count
+    → PrintsOf (DrillsWith seeded) (generated_file count) ended before after
     → (status_of ended ≡ 0) ⊎ ((status_of ended ≡ 7) ⊎ (status_of ended ≡ 9))
 ends count seeded Printed before after o h = inl refl
 ends count seeded PrintFault before after o h = inr (inl refl)
@@ -122,9 +122,9 @@ ends count seeded Usage before after o h = absurd h
 ends count seeded Missing before after o h = absurd h
 ends count seeded (Served end) before after o h = absurd h
 
-pub drill-ends : GeneratedOpen → (words : List (List ℕ)) (texts : Shelves) (seeded : Seeded) (before after : Outside)
+pub drill-ends : GeneratedOpen → (words : List (List ℕ)) (texts : Shelves) (seeded : WordsBySeeding) (before after : Outside)
     (written0 written1 : Option (List ℕ)) (faults0 faults1 status count : ℕ)
-    → Runs words texts seeded before after written0 written1 faults0 faults1 status
+    → RunsServer words texts seeded before after written0 written1 faults0 faults1 status
     → command_of words ≡ Some (Drill count)
     → (status ≡ 0) ⊎ ((status ≡ 7) ⊎ (status ≡ 9))
 drill-ends law words texts seeded before after written0 written1 faults0 faults1 status count r is =

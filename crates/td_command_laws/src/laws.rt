@@ -9,7 +9,7 @@ ghost use Rattle.td_command_laws.specs.Spelling.{FilesSpellReplies, RunsSpellRep
 pub fn histories_grow_by_own_changes()
     ensures { HistoriesGrowByOwn }
 {
-    td_turns::alone_histories_grow_by_own_changes();
+    td_session_runs::alone_histories_grow_by_own_changes();
 }
 
 /// Where the stores can be written that a session over traders of its own begins with, each reply of it spells the
@@ -23,7 +23,7 @@ pub fn replies_of_files_spell_outcomes()
     ensures { FilesSpellReplies }
 {}
 
-/// `drill N` has status 0, 7 where its line can't be printed, or 9 for want of memory: never 3, since the file that
+/// `drill N` has status 0, 7 where its line can't be printed, or 9 when out of memory: never 3, since the file that
 /// `make N` prints opens and isn't too long.
 pub fn drills_are_not_refused()
     ensures { DrillsAreNotRefused }

@@ -1,4 +1,4 @@
-//! Commands over texts, sources and sinks in memory, with every status but the one for want of memory.
+//! Commands over texts, sources and sinks in memory, with every status but the one when out of memory.
 
 use std::alloc::Global;
 use std::process::{Abort, ExitCode};

@@ -118,7 +118,7 @@ fn with_file(alloc: Global, text: Octets) -> Result<MemTexts, Memory> {
 /// Whether it was tried and is so.
 fn holds(tried: Result<bool, Memory>) -> bool {
     match tried {
-        Ok(told) => told,
+        Ok(content) => content,
         Err(_) => false,
     }
 }

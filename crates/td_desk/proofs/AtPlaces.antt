@@ -4,35 +4,35 @@ use Rattle.std.proofs.Common.{ap, subst, ◌∙◌}
 use Rattle.std.specs.Prelude.{slice_set}
 use Rattle.std.proofs.lemmas.Option.{slice_get_read}
 use Rattle.td_cdr.specs.Writing.{Draft}
-use Rattle.td_cdr.specs.declared.memory.Memory.{Memory as WantOfMemory}
-use Rattle.td_iter.specs.declared.desk.Entry.{Entry}
+use Rattle.td_cdr.specs.declared.memory.Memory.{Memory as MemoryFault}
+use Rattle.td_iter.specs.declared.desk.DeskEntry.{DeskEntry}
 use Rattle.td_iter.specs.declared.item.Item.{Item}
 use Rattle.td_desk.specs.Placing.{GivesAt, GivesAtBy, IsNext}
 
-set_same : (es : List (Entry Item)) (place : ℕ) (e : Entry Item) → e ≡ get_or es place e → slice_set es place e ≡ es
+set_same : (es : List (DeskEntry Item)) (place : ℕ) (e : DeskEntry Item) → e ≡ get_or es place e → slice_set es place e ≡ es
 set_same [] place e is = refl
-set_same (x ∷ es) zero e is = ap (λ (y : Entry Item). y ∷ es) is
-set_same (x ∷ es) (suc place) e is = ap (λ (ys : List (Entry Item)). x ∷ ys) (set_same es place e is)
+set_same (x ∷ es) zero e is = ap (λ (y : DeskEntry Item). y ∷ es) is
+set_same (x ∷ es) (suc place) e is = ap (λ (ys : List (DeskEntry Item)). x ∷ ys) (set_same es place e is)
 
 -- a batch that was given, and one that wasn't
-module _ (n place : ℕ) (es : List (Entry Item)) (w back : Draft) (e : Entry Item) (lt : place < length es)
+module _ (n place : ℕ) (es : List (DeskEntry Item)) (w back : Draft) (e : DeskEntry Item) (lt : place < length es)
     (is : e ≡ get_or es place e) where
-  pub given_here : (left : Entry Item) (more : Bool) → left ≡ record e { item = left.item }
+  pub given_here : (left : DeskEntry Item) (more : Bool) → left ≡ record e { item = left.item }
       → IsNext n w back e.item left.item more → GivesAt n place es (slice_set es place left) w back (Ok (Some more))
   given_here left more same next =
-      subst (λ (o : Option (Entry Item)). GivesAtBy n place es (slice_set es place left) w back o (Ok (Some more)))
+      subst (λ (o : Option (DeskEntry Item)). GivesAtBy n place es (slice_set es place left) w back o (Ok (Some more)))
       (sym (slice_get_read es (length es) place e refl lt is)) (record {
-        left_is = ap (λ (x : Entry Item). slice_set es place x) (same
+        left_is = ap (λ (x : DeskEntry Item). slice_set es place x) (same
             ∙ ap (λ (i : Item). record e { item = i }) next.left_is);
         more_is = next.more_is;
         bytes = next.bytes;
       })
 
-  pub kept_here : (left : Entry Item) (memory : WantOfMemory) → left ≡ e → back.bytes ≡ w.bytes
+  pub kept_here : (left : DeskEntry Item) (memory : MemoryFault) → left ≡ e → back.bytes ≡ w.bytes
       → GivesAt n place es (slice_set es place left) w back (Err memory)
   kept_here left memory same kept =
-      subst (λ (o : Option (Entry Item)). GivesAtBy n place es (slice_set es place left) w back o (Err memory))
+      subst (λ (o : Option (DeskEntry Item)). GivesAtBy n place es (slice_set es place left) w back o (Err memory))
       (sym (slice_get_read es (length es) place e refl lt is)) (record {
-        left_is = ap (λ (x : Entry Item). slice_set es place x) same ∙ set_same es place e is;
+        left_is = ap (λ (x : DeskEntry Item). slice_set es place x) same ∙ set_same es place e is;
         bytes = kept;
       })

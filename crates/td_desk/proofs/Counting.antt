@@ -4,7 +4,7 @@ use Rattle.std.proofs.Common.{inl, inr, length, drop, min, nat_lt, refl, sym, ap
 use Rattle.std.proofs.lemmas.Bool.{both_ways}
 use Rattle.td_cdr.specs.Format.{Piece}
 use Rattle.td_cdr.specs.Writing.{Draft}
-use Rattle.td_codes.specs.Formats.{is_some}
+use Rattle.td_typecode.specs.Formats.{is_nonempty}
 use Rattle.td_iter.specs.Batches.{FitsMessage, GivesBatch, batch}
 use Rattle.td_iter.specs.Heads.{next_ids, next_offers}
 use Rattle.td_iter.specs.declared.item.Item.TheVariants.{Offers, Ids}
@@ -35,7 +35,7 @@ greatest_is holds (suc m) k le is most = greatest_by (holds (suc m)) m k (greate
     (λ off. greatest_later holds m k (λ small. greatest_is holds m k small is (λ j at h. most j (omega (arith, at)) h))
     is off (at_most k m le))
 
-behind : {X : Type 0} (k : ℕ) (xs : List X) → is_some (drop k xs) ≡ nat_lt k (length xs)
+behind : {X : Type 0} (k : ℕ) (xs : List X) → is_nonempty (drop k xs) ≡ nat_lt k (length xs)
 behind zero [] = (let none : nat_lt 0 0 ≡ false = grind arith in sym none)
 behind zero (x ∷ xs) = (let less : nat_lt 0 (suc (length xs)) ≡ true = grind arith in sym less)
 behind (suc k) [] = (let none : nat_lt (suc k) 0 ≡ false = grind arith in sym none)
@@ -68,7 +68,7 @@ module _ {X : Type 0} (head : List X → Bool → Piece) (xs rest : List X) (n :
   rest_is = g.rest_is ∙ ap (λ (k : ℕ). drop k xs) (sym count_is)
 
   pub more_is : more ≡ nat_lt (batch_count head w.order xs n) (length xs)
-  more_is = g.more_is ∙ ap (λ (ys : List X). is_some ys) g.rest_is ∙ behind g.count xs ∙ ap (λ (k : ℕ). nat_lt k (length xs)) (sym count_is)
+  more_is = g.more_is ∙ ap (λ (ys : List X). is_nonempty ys) g.rest_is ∙ behind g.count xs ∙ ap (λ (k : ℕ). nat_lt k (length xs)) (sym count_is)
 
   pub bytes_is : back.bytes ≡ w.bytes ++ batch head xs (batch_count head w.order xs n) w.order REPLY_START
   bytes_is = g.puts.bytes

@@ -1,5 +1,5 @@
--- What an iterator gives of what is left of it (OMG's Trading Object Service, next_n of the interfaces OfferIterator and
--- OfferIdIterator).
+-- What an iterator gives of what is left of it (OMG's Trading Object Service, next_n of the interfaces OfferIterator
+-- and OfferIdIterator).
 use Rattle.std.specs.Prelude.{ℕ, zero, suc, ◌+◌, Bool, true, false, if◌then◌else◌, List, length, take, drop, min, nat_le}
 use Rattle.std.specs.Prelude.{nat_lt}
 use Rattle.td_cdr.specs.declared.order.Order.{Order}

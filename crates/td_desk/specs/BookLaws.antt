@@ -3,11 +3,11 @@ use Rattle.std.proofs.Common.{◌≡◌, ℕ, ◌+◌, ◌≤◌, Bool, true, fa
 use Rattle.std.proofs.Common.{append-nil, append_assoc, Result, Ok, Err, refl, sym, ap, subst, ◌∙◌, arith}
 use Rattle.td_cdr.specs.Marks.{Later}
 use Rattle.td_cdr.specs.Writing.{Draft}
-use Rattle.td_cell.specs.OwnMarks.{MarksOnce}
-use Rattle.td_iter.specs.declared.desk.Entry.{Entry}
+use Rattle.td_cell.specs.OwnMarks.{AddsMark}
+use Rattle.td_iter.specs.declared.desk.DeskEntry.{DeskEntry}
 use Rattle.td_iter.specs.declared.item.Item.{Item}
-use Rattle.td_desk.specs.Acting.{Acts, GivesBy, GoesOn, finds, no_marks, noted}
-use Rattle.td_desk.specs.Standings.{is_full, standing}
+use Rattle.td_desk.specs.Acting.{DeskActs, GivesBy, ExtendsHistory, finds, no_marks, note_act}
+use Rattle.td_desk.specs.Standings.{is_full, state_after}
 use Rattle.td_desk.specs.declared.act.Act.{Act}
 use Rattle.td_desk.specs.declared.act.Act.TheVariants as act
 use Rattle.td_desk.specs.declared.act.Reply.{Reply}
@@ -16,19 +16,20 @@ use Rattle.td_desk.specs.declared.event.Event.{Event}
 use Rattle.td_desk.specs.declared.event.Event.TheVariants as event
 use Rattle.td_desk.specs.declared.fault.DeskFault.{DeskFault}
 
-pub goes_on_itself : (h : List Event) → GoesOn h h
+pub goes_on_itself : (h : List Event) → ExtendsHistory h h
 goes_on_itself h = record { rest = []; is = sym (append-nil h) }
 
-pub goes_on_more : (h k l : List Event) → GoesOn h k → GoesOn k l → GoesOn h l
+pub goes_on_more : (h k l : List Event) → ExtendsHistory h k → ExtendsHistory k l
+    → ExtendsHistory h l
 goes_on_more h k l p q = record {
   rest = p.rest ++ q.rest;
   is = q.is ∙ ap (λ (xs : List Event). xs ++ q.rest) p.is ∙ append_assoc h p.rest q.rest;
 }
 
-pub grows : (h k : List Event) → GoesOn h k → length h ≤ length k
+pub grows : (h k : List Event) → ExtendsHistory h k → length h ≤ length k
 grows h k p = omega (arith, ap (length {A = Event}) p.is, length-append h p.rest)
 
-pub no_mark : (h k : List Event) → GoesOn h k → Later no_marks no_marks
+pub no_mark : (h k : List Event) → ExtendsHistory h k → Later no_marks no_marks
 no_mark h k p = record {
   ring = refl;
   count = omega arith;
@@ -39,13 +40,13 @@ no_mark h k p = record {
 
 -- the history is as it was, or has one call more
 pub record Once (h k : List Event) : Type 0 where
-  pub goes_on : GoesOn h k
+  pub goes_on : ExtendsHistory h k
   pub most : length k ≤ length h + 1
 
 kept_once : (h k : List Event) → k ≡ h → Once h k
 kept_once h k e = subst (Once h) (sym e) (record { goes_on = goes_on_itself h; most = omega arith })
 
-noted_once : (full : Bool) (e : Event) (h k : List Event) → k ≡ noted full e h → Once h k
+noted_once : (full : Bool) (e : Event) (h k : List Event) → k ≡ note_act full e h → Once h k
 noted_once true e h k is = kept_once h k is
 noted_once false e h k is = subst (Once h) (sym is) (record {
   goes_on = record { rest = e ∷ []; is = refl };
@@ -53,24 +54,24 @@ noted_once false e h k is = subst (Once h) (sym is) (record {
 })
 
 module _ (h : List Event) (trader : List ℕ) (number n : ℕ) (w back : Draft) (k : List Event) where
-  given_once : (x : Result (Entry Item) DeskFault) (r : Result Bool DeskFault)
+  given_once : (x : Result (DeskEntry Item) DeskFault) (r : Result Bool DeskFault)
       → GivesBy h trader number n w back k x r → Once h k
   given_once (Ok e) (Ok more) g = noted_once false (event.Next trader number n w.order)
       h k g.history
   given_once (Ok e) (Err f) g = kept_once h k g.history
   given_once (Err fault) (Ok more) g = absurd g
   given_once (Err fault) (Err f) g =
-      noted_once (is_full (standing h).calls) (event.Next trader number n w.order) h k g.history
+      noted_once (is_full (state_after h).calls) (event.Next trader number n w.order) h k g.history
 
-once : (h : List Event) (a : Act) (r : Reply) (k : List Event) → Acts h a r k → Once h k
-once h act.Draw (reply.Drawn r) k p = noted_once (is_full (standing h).draws)
+once : (h : List Event) (a : Act) (r : Reply) (k : List Event) → DeskActs h a r k → Once h k
+once h act.Draw (reply.Drawn r) k p = noted_once (is_full (state_after h).draws)
     event.Draw h k p.history
 once h act.Draw (reply.Added r) k p = absurd p
 once h act.Draw (reply.Left r) k p = absurd p
 once h act.Draw (reply.Next back r) k p = absurd p
 once h act.Draw (reply.Destroyed r) k p = absurd p
 once h (act.Add e) (reply.Drawn r) k p = absurd p
-once h (act.Add e) (reply.Added r) k p = noted_once (is_full (standing h).adds)
+once h (act.Add e) (reply.Added r) k p = noted_once (is_full (state_after h).adds)
     (event.Add e) h k p.history
 once h (act.Add e) (reply.Left r) k p = absurd p
 once h (act.Add e) (reply.Next back r) k p = absurd p
@@ -78,7 +79,7 @@ once h (act.Add e) (reply.Destroyed r) k p = absurd p
 once h (act.Left trader number) (reply.Drawn r) k p = absurd p
 once h (act.Left trader number) (reply.Added r) k p = absurd p
 once h (act.Left trader number) (reply.Left r) k p =
-    noted_once (is_full (standing h).calls) (event.Left trader number) h k p.history
+    noted_once (is_full (state_after h).calls) (event.Left trader number) h k p.history
 once h (act.Left trader number) (reply.Next back r) k p = absurd p
 once h (act.Left trader number) (reply.Destroyed r) k p = absurd p
 once h (act.Next trader number n begun) (reply.Drawn r) k p = absurd p
@@ -92,15 +93,16 @@ once h (act.Destroy trader number) (reply.Added r) k p = absurd p
 once h (act.Destroy trader number) (reply.Left r) k p = absurd p
 once h (act.Destroy trader number) (reply.Next back r) k p = absurd p
 once h (act.Destroy trader number) (reply.Destroyed r) k p =
-    noted_once (is_full (standing h).calls) (event.Destroy trader number) h k p.history
+    noted_once (is_full (state_after h).calls) (event.Destroy trader number) h k p.history
 
-pub acts_go_on : (h : List Event) (a : Act) (r : Reply) (k : List Event) → Acts h a r k → GoesOn h k
+pub acts_go_on : (h : List Event) (a : Act) (r : Reply) (k : List Event) → DeskActs h a r k
+    → ExtendsHistory h k
 acts_go_on h a r k p = (once h a r k p).goes_on
 
-pub acts_within : (h : List Event) (a : Act) (r : Reply) (k : List Event) → Acts h a r k
+pub acts_within : (h : List Event) (a : Act) (r : Reply) (k : List Event) → DeskActs h a r k
     → length k ≤ length h + 1
 acts_within h a r k p = (once h a r k p).most
 
-pub makes_none : (h : List Event) (a : Act) (r : Reply) (k : List Event) → Acts h a r k
-    → MarksOnce no_marks no_marks
+pub makes_none : (h : List Event) (a : Act) (r : Reply) (k : List Event) → DeskActs h a r k
+    → AddsMark no_marks no_marks
 makes_none h a r k p = inl refl

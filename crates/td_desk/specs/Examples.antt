@@ -1,19 +1,19 @@
 -- A worked history: an answer of seven ids gave two of them at once. Two connections ask for the rest.
 use Rattle.std.specs.Prelude.{◌≡◌, List, [], ◌∷◌, codes, take, Ok, Err, true, false}
 use Rattle.td_cdr.specs.declared.order.Order.TheVariants.{Big, Little}
-use Rattle.td_iter.specs.declared.desk.Entry.{Entry}
+use Rattle.td_iter.specs.declared.desk.DeskEntry.{DeskEntry}
 use Rattle.td_iter.specs.declared.item.Item.{Item}
 use Rattle.td_iter.specs.declared.item.Item.TheVariants.{Ids}
 use Rattle.td_desk.specs.Acting.{finds}
 use Rattle.td_desk.specs.Batching.{more_behind}
 use Rattle.td_desk.specs.Giving.{AnId, given, places_at}
-use Rattle.td_desk.specs.Standings.{nothing}
+use Rattle.td_desk.specs.Standings.{empty_desk}
 use Rattle.td_desk.specs.declared.event.Event.{Event}
 use Rattle.td_desk.specs.declared.event.Event.TheVariants.{Draw, Add, Next, Destroy}
 use Rattle.td_desk.specs.declared.fault.DeskFault.TheVariants.{Absent}
 
 -- what is left of the answer
-abbrev pub five_left : Entry Item
+abbrev pub five_left : DeskEntry Item
 five_left = record {
   trader = codes "A";
   number = 1;
@@ -27,7 +27,7 @@ in_turns = Draw ∷ Add five_left ∷ Next (codes "A") 1 3 Big ∷ Next (codes "
 
 pub record WorkedTurns : Type 0 where
   -- what each call gives
-  pub gives : given (codes "A") 1 nothing in_turns ≡
+  pub gives : given (codes "A") 1 empty_desk in_turns ≡
       [] ∷ [] ∷ (AnId (codes "3") ∷ AnId (codes "4") ∷ AnId (codes "5") ∷ [])
       ∷ (AnId (codes "6") ∷ AnId (codes "7") ∷ []) ∷ [] ∷ []
   -- from which places of the list

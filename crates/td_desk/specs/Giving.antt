@@ -5,22 +5,22 @@ use Rattle.std.specs.Prelude.{Option, Some, None, slice_index_or}
 use Rattle.std.specs.Str.{bytes_eq}
 use Rattle.td_cdr.specs.Format.{upwards}
 use Rattle.td_iter.specs.Desks.{is_called}
-use Rattle.td_iter.specs.declared.desk.Entry.{Entry}
+use Rattle.td_iter.specs.declared.desk.DeskEntry.{DeskEntry}
 use Rattle.td_iter.specs.declared.item.Item.{Item}
 use Rattle.td_iter.specs.declared.item.Item.TheVariants.{Offers, Ids}
 use Rattle.td_value.specs.declared.structures.Offer.{Offer}
 use Rattle.td_desk.specs.Batching.{given_of}
-use Rattle.td_desk.specs.Standings.{Standing, after, nothing, standing}
+use Rattle.td_desk.specs.Standings.{DeskState, after, empty_desk, state_after}
 use Rattle.td_desk.specs.declared.event.Event.{Event}
 use Rattle.td_desk.specs.declared.event.Event.TheVariants.{Draw, Add, Left, Next, Destroy}
 
 -- an offer or an id
-pub data Thing : Type 0 where
-  AnOffer : Offer → Thing
-  AnId : List ℕ → Thing
+pub data IteratorItem : Type 0 where
+  AnOffer : Offer → IteratorItem
+  AnId : List ℕ → IteratorItem
 
 -- what is left of an answer
-abbrev pub things_of : Item → List Thing
+abbrev pub things_of : Item → List IteratorItem
 things_of (Offers xs) = map AnOffer xs
 things_of (Ids xs) = map AnId xs
 
@@ -29,12 +29,12 @@ module _ (trader : List ℕ) (number : ℕ) where
   is_its name n = (n == number) && bytes_eq name trader
 
   -- what the batch of the first that is called so has
-  abbrev pub batch_by : (Item → Item) → Option (Entry Item) → List Thing
+  abbrev pub batch_by : (Item → Item) → Option (DeskEntry Item) → List IteratorItem
   batch_by f None = []
   batch_by f (Some e) = things_of (f e.item)
 
   -- what a call gives of it
-  abbrev pub given_at : Standing → Event → List Thing
+  abbrev pub given_at : DeskState → Event → List IteratorItem
   given_at s Draw = []
   given_at s (Add e) = []
   given_at s (Left name n) = []
@@ -43,7 +43,7 @@ module _ (trader : List ℕ) (number : ℕ) where
   given_at s (Destroy name n) = []
 
   -- what each of these calls gives of it, from what stands there before them
-  abbrev pub given : Standing → List Event → List (List Thing)
+  abbrev pub given : DeskState → List Event → List (List IteratorItem)
   given s [] = []
   given s (e ∷ es) = given_at s e ∷ given (after s e) es
 
@@ -60,9 +60,9 @@ module _ (trader : List ℕ) (number : ℕ) where
   PutOthers (e ∷ es) = puts_others e × PutOthers es
 
 -- one list after another
-abbrev pub joined : {X : Type 0} → List (List X) → List X
-joined [] = []
-joined (xs ∷ xss) = xs ++ joined xss
+abbrev pub join_lists : {X : Type 0} → List (List X) → List X
+join_lists [] = []
+join_lists (xs ∷ xss) = xs ++ join_lists xss
 
 -- the places in its list of what each call gives, from a place on
 abbrev pub places_by : {X : Type 0} → ℕ → List (List X) → List (List ℕ)
@@ -71,15 +71,17 @@ places_by from (xs ∷ xss) = upwards from (length xs) ∷ places_by (from + len
 
 -- Of an iterator that is put on the desk once, under a number of its own: what the calls of the history have given is
 -- the front of its list, and what is left of it, while it is there, is the rest.
-pub record IsFront (h : List Event) (e : Entry Item) (rest : List Thing) : Type 0 where
-  pub front : joined (given e.trader e.number nothing h) ++ rest ≡ things_of e.item
-  pub left : (x : Entry Item) → find (is_called e.trader e.number) (standing h).entries ≡ Some x
+pub record IsFrontOfList (h : List Event) (e : DeskEntry Item) (rest : List IteratorItem) :
+    Type 0 where
+  pub front : join_lists (given e.trader e.number empty_desk h) ++ rest ≡ things_of e.item
+  pub left : (x : DeskEntry Item) → find (is_called e.trader e.number) (state_after h).entries
+      ≡ Some x
       → rest ≡ things_of x.item
 
 -- the places in its list of what the call at this place of the history has given
-abbrev pub places_at : List Event → Entry Item → ℕ → List ℕ
-places_at h e place = slice_index_or (places_by 0 (given e.trader e.number nothing h)) place []
+abbrev pub places_at : List Event → DeskEntry Item → ℕ → List ℕ
+places_at h e place = slice_index_or (places_by 0 (given e.trader e.number empty_desk h)) place []
 
 -- the places in its list of what the calls at these places of the history have given
-abbrev pub places_through : List Event → Entry Item → List ℕ → List ℕ
-places_through h e own = joined (map (places_at h e) own)
+abbrev pub places_through : List Event → DeskEntry Item → List ℕ → List ℕ
+places_through h e own = join_lists (map (places_at h e) own)

@@ -3,7 +3,7 @@ use Rattle.std.specs.Prelude.{◌≡◌, ℕ, suc, Bool, List, ◌++◌, take, d
 use Rattle.std.specs.Prelude.{slice_set}
 use Rattle.td_cdr.specs.Writing.{Draft}
 use Rattle.td_cdr.specs.declared.memory.Memory.{Memory}
-use Rattle.td_iter.specs.declared.desk.Entry.{Entry}
+use Rattle.td_iter.specs.declared.desk.DeskEntry.{DeskEntry}
 use Rattle.td_iter.specs.declared.item.Item.{Item}
 use Rattle.td_desk.specs.declared.fault.DeskFault.{DeskFault}
 use Rattle.td_desk.specs.declared.fault.DeskFault.TheVariants.{Absent}
@@ -19,9 +19,9 @@ pub record IsNext (n : ℕ) (w back : Draft) (item left : Item) (more : Bool) : 
   pub more_is : more ≡ more_behind n w.order item
   pub bytes : back.bytes ≡ w.bytes ++ body_of n w.order item
 
-module _ (n place : ℕ) (es left : List (Entry Item)) (w back : Draft) where
+module _ (n place : ℕ) (es left : List (DeskEntry Item)) (w back : Draft) where
   -- the one at the place has given its batch for n items
-  pub record IsGivenAt (e : Entry Item) (more : Bool) : Type 0 where
+  pub record IsGivenAt (e : DeskEntry Item) (more : Bool) : Type 0 where
     pub left_is : left ≡ slice_set es place (record e { item = left_behind n w.order e.item })
     pub more_is : more ≡ more_behind n w.order e.item
     pub bytes : back.bytes ≡ w.bytes ++ body_of n w.order e.item
@@ -30,7 +30,7 @@ module _ (n place : ℕ) (es left : List (Entry Item)) (w back : Draft) where
     pub left_is : left ≡ es
     pub bytes : back.bytes ≡ w.bytes
 
-  abbrev pub GivesAtBy : Option (Entry Item) → Result (Option Bool) Memory → Type 0
+  abbrev pub GivesAtBy : Option (DeskEntry Item) → Result (Option Bool) Memory → Type 0
   GivesAtBy (Some e) (Ok (Some more)) = IsGivenAt e more
   GivesAtBy (Some e) (Ok None) = ⊥
   GivesAtBy (Some e) (Err memory) = IsKeptAt

@@ -7,7 +7,7 @@ use crate::book::DeskBook;
 use crate::fault::DeskFault;
 use td_cdr::{Text, Writer};
 use td_cell::Book;
-use td_iter::{Entry, Item};
+use td_iter::{DeskEntry, Item};
 
 /// A writer that holds what stands before the body of a reply.
 #[derive(Drop)]
@@ -20,7 +20,7 @@ pub struct Begun {
 #[derive(Drop)]
 pub enum Act {
     Draw,
-    Add(Entry<Item>),
+    Add(DeskEntry<Item>),
     Left {
         trader: Text,
         number: u64,
@@ -44,13 +44,13 @@ pub enum Reply {
     /// The number.
     Drawn(Result<u64, DeskFault>),
     /// The iterator that was dropped for it.
-    Added(Option<Entry<Item>>),
+    Added(Option<DeskEntry<Item>>),
     /// How many are left, and whether they are offers.
     Left(Result<(u32, bool), DeskFault>),
     /// The writer is handed back. Whether something is left behind the batch.
     Next(Writer, Result<bool, DeskFault>),
     /// The iterator that was taken off.
-    Destroyed(Result<Entry<Item>, DeskFault>),
+    Destroyed(Result<DeskEntry<Item>, DeskFault>),
 }
 
 impl Book for DeskBook {
@@ -59,15 +59,15 @@ impl Book for DeskBook {
     type Reply = Reply;
 
     ghost use Rattle.std.specs.Prelude.{length};
-    ghost use Rattle.td_desk.specs.Acting.{Acts, GoesOn, no_marks};
+    ghost use Rattle.td_desk.specs.Acting.{DeskActs, ExtendsHistory, no_marks};
 
     ghost size = { length };
 
     ghost remembers = { λ _. no_marks };
 
-    ghost later = { GoesOn };
+    ghost later = { ExtendsHistory };
 
-    ghost acts = { Acts };
+    ghost acts = { DeskActs };
 
     /// Does what the desk's own call does.
     fn act(&mut self, a: Act) -> Reply {

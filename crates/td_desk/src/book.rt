@@ -1,8 +1,8 @@
 //! The book: what stands on the desk, and how many calls were done.
 
 ghost use Rattle.std.specs.Prelude.{◌≡◌, ◌<◌, ◌≤◌, ◌+◌, [], length, IfOk};
-ghost use Rattle.td_desk.specs.Acting.{Adds, Counts, Destroys, Draws, Gives};
-ghost use Rattle.td_iter.specs.declared.desk.Entry.{Entry as TheEntry};
+ghost use Rattle.td_desk.specs.Acting.{AddsIterator, Counts, DestroysIterator, DrawsNumber, GivesBatch};
+ghost use Rattle.td_iter.specs.declared.desk.DeskEntry.{DeskEntry as TheEntry};
 ghost use Rattle.td_iter.specs.declared.item.Item.{Item as AnItem};
 
 use crate::act::Begun;
@@ -13,8 +13,8 @@ use std::alloc::Global;
 use std::collections::VecDeque;
 use std::marker::Model;
 use td_cdr::{Memory, Text, Writer};
-use td_iter::{Entry, Item};
-use td_past::Past;
+use td_ghost_list::Past;
+use td_iter::{DeskEntry, Item};
 
 /// How many numbers are drawn at most, how many iterators are put on the desk, and how many calls of these are done.
 const MOST: u64 = 1 << 40;
@@ -23,7 +23,7 @@ const MOST: u64 = 1 << 40;
 /// the history of the calls.
 pub struct DeskBook {
     alloc: Global,
-    entries: VecDeque<Entry<Item>>,
+    entries: VecDeque<DeskEntry<Item>>,
     draws: u64,
     adds: u64,
     calls: u64,
@@ -48,10 +48,10 @@ impl Model for DeskBook {
     ghost use Rattle.std.specs.Prelude.{List, ◌≤◌};
     ghost use Rattle.std.specs.Coded.{codes};
     ghost use Rattle.std.specs.VecDeque.{deque_capacity};
-    ghost use Rattle.td_codes.specs.contracts.code.TypeCode as code;
-    ghost use Rattle.td_codes.specs.contracts.code.Value as value;
+    ghost use Rattle.td_typecode.specs.contracts.code.TypeCode as code;
+    ghost use Rattle.td_typecode.specs.contracts.code.Value as value;
     ghost use Rattle.td_desk.specs.declared.event.Event.{Event as an_event};
-    ghost use Rattle.td_past.specs.Entries.{entries_of};
+    ghost use Rattle.td_ghost_list.specs.Entries.{entries_of};
 
     ghost Value = { List an_event };
 
@@ -71,7 +71,7 @@ impl DeskBook {
     ///
     /// # Errors
     ///
-    /// `Memory` for want of memory alone.
+    /// `Memory` only when out of memory.
     pub fn new(alloc: Global) -> Result<DeskBook, Memory>
         ensures { IfOk result (λ d. d ≡ []) }
     {
@@ -98,7 +98,7 @@ impl DeskBook {
     ///
     /// `Full` exactly where 2^40 were drawn; nothing has then changed.
     pub fn draw(&mut self) -> Result<u64, DeskFault>
-        ensures { Draws self.old result self.new }
+        ensures { DrawsNumber self.old result self.new }
     {
         if self.draws >= MOST {
             return Err(DeskFault::Full);
@@ -110,8 +110,8 @@ impl DeskBook {
 
     /// Puts an iterator on the desk. Of 4,096 the oldest is dropped, and comes back. After 2^40 of them it comes back
     /// itself, and nothing has changed. Takes no memory.
-    pub fn add(&mut self, entry: Entry<Item>) -> Option<Entry<Item>>
-        ensures { Adds self.old entry result self.new }
+    pub fn add(&mut self, entry: DeskEntry<Item>) -> Option<DeskEntry<Item>>
+        ensures { AddsIterator self.old entry result self.new }
     {
         if self.adds >= MOST {
             return Some(entry);
@@ -149,7 +149,7 @@ impl DeskBook {
     /// # Errors
     ///
     /// `Full` exactly where 2^40 calls of iterators were done; else `Absent` exactly where none is called so. `Memory`
-    /// for want of memory alone. What the writer holds is then as it was, and so is the iterator; where it was `Full`
+    /// only when out of memory. What the writer holds is then as it was, and so is the iterator; where it was `Full`
     /// or `Memory`, so is the history.
     pub fn next_n(
         &mut self,
@@ -158,7 +158,7 @@ impl DeskBook {
         n: u32,
         begun: Begun,
     ) -> (Writer, Result<bool, DeskFault>)
-        ensures { Gives self.old trader number n begun.writer result.0 self.new result.1 }
+        ensures { GivesBatch self.old trader number n begun.writer result.0 self.new result.1 }
     {
         let Begun { mut writer } = begun;
         if self.calls >= MOST {
@@ -190,8 +190,8 @@ impl DeskBook {
     /// # Errors
     ///
     /// `Full` exactly where 2^40 calls of iterators were done; else `Absent` exactly where none is called so.
-    pub fn destroy(&mut self, trader: Text, number: u64) -> Result<Entry<Item>, DeskFault>
-        ensures { Destroys self.old trader number result self.new }
+    pub fn destroy(&mut self, trader: Text, number: u64) -> Result<DeskEntry<Item>, DeskFault>
+        ensures { DestroysIterator self.old trader number result self.new }
     {
         if self.calls >= MOST {
             drop(trader);
@@ -206,7 +206,7 @@ impl DeskBook {
 }
 
 /// The iterator that was put on the desk.
-fn entry_of(event: Event) -> Entry<Item>
+fn entry_of(event: Event) -> DeskEntry<Item>
     requires { (e : TheEntry AnItem) × (event ≡ Event.Add e) }
     ensures { event ≡ Event.Add result }
 {

@@ -1,7 +1,7 @@
 //! The history of the desk.
 
 use td_cdr::{Order, Text};
-use td_iter::{Entry, Item};
+use td_iter::{DeskEntry, Item};
 
 /// A call that was done on the desk.
 #[derive(Drop)]
@@ -9,7 +9,7 @@ pub enum Event {
     /// A number was drawn.
     Draw,
     /// An iterator was put on the desk.
-    Add(Entry<Item>),
+    Add(DeskEntry<Item>),
     /// It was asked how many are left of the iterator of this trader and number.
     Left {
         trader: Text,

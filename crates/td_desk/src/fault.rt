@@ -7,6 +7,6 @@ pub enum DeskFault {
     Absent,
     /// As many calls of its kind were done as may be.
     Full,
-    /// For want of memory alone.
+    /// For running out of memory alone.
     Memory,
 }

@@ -3,7 +3,7 @@
 ghost use Rattle.std.specs.Prelude.{◌≡◌, ◌-◌, ◌≤◌, length, drop, false, slice_get, IfOk, OnErr};
 ghost use Rattle.std.specs.List.{remove};
 ghost use Rattle.std.specs.VecDeque.{deque_capacity};
-ghost use Rattle.td_desk.specs.Acting.{dropped, found_by, result_of};
+ghost use Rattle.td_desk.specs.Acting.{dropped_entry, found_by, result_of};
 ghost use Rattle.td_desk.specs.Batching.{is_offers, size_of};
 ghost use Rattle.td_desk.specs.Placing.{GivesAt, IsNext, cut_out, or_absent};
 ghost use Rattle.td_iter.specs.Desks.{is_called, place_of};
@@ -13,20 +13,20 @@ use crate::fault::DeskFault;
 use std::alloc::Global;
 use std::collections::VecDeque;
 use td_cdr::{Memory, Text, Writer};
-use td_iter::{Entry, Item};
+use td_iter::{DeskEntry, Item};
 
 /// How many iterators the desk keeps at most.
 pub(crate) const MOST_ITEMS: usize = 4096;
 
 /// Whether an iterator has this number and is of this trader.
-fn is_called(entry: &Entry<Item>, trader: &Text, number: u64) -> bool
+fn is_called(entry: &DeskEntry<Item>, trader: &Text, number: u64) -> bool
     ensures { result ≡ is_called trader.now number entry.now }
 {
     entry.number == number && entry.trader.as_slice() == trader.as_slice()
 }
 
 /// The place of the first that is called so; how many there are, where none is.
-pub(crate) fn place_of(entries: &VecDeque<Entry<Item>>, trader: &Text, number: u64) -> usize
+pub(crate) fn place_of(entries: &VecDeque<DeskEntry<Item>>, trader: &Text, number: u64) -> usize
     ensures place { result ≡ place_of trader.now number entries.now.items }
     ensures within { result ≤ length entries.now.items }
 {
@@ -41,9 +41,9 @@ pub(crate) fn place_of(entries: &VecDeque<Entry<Item>>, trader: &Text, number: u
 }
 
 /// Takes the oldest out where there are as many as may be.
-pub(crate) fn make_room(entries: &mut VecDeque<Entry<Item>>) -> Option<Entry<Item>>
+pub(crate) fn make_room(entries: &mut VecDeque<DeskEntry<Item>>) -> Option<DeskEntry<Item>>
     requires { length entries.old.items ≤ 4096 }
-    ensures dropped { result ≡ dropped entries.old.items }
+    ensures dropped { result ≡ dropped_entry entries.old.items }
     ensures items { entries.new.items ≡ drop (length entries.old.items - 4095) entries.old.items }
     ensures capacity { deque_capacity entries.new ≡ deque_capacity entries.old }
 {
@@ -56,7 +56,7 @@ pub(crate) fn make_room(entries: &mut VecDeque<Entry<Item>>) -> Option<Entry<Ite
 
 /// How many are left at a place, and whether they are offers.
 pub(crate) fn size_at(
-    entries: &VecDeque<Entry<Item>>,
+    entries: &VecDeque<DeskEntry<Item>>,
     place: usize,
 ) -> Result<(u32, bool), DeskFault>
     ensures { result ≡ result_of (λ e. (size_of e.item, is_offers e.item))
@@ -79,9 +79,9 @@ fn size_of(item: &Item) -> (u32, bool)
 
 /// Takes the one at a place out.
 pub(crate) fn take_out(
-    entries: &mut VecDeque<Entry<Item>>,
+    entries: &mut VecDeque<DeskEntry<Item>>,
     place: usize,
-) -> Result<Entry<Item>, DeskFault>
+) -> Result<DeskEntry<Item>, DeskFault>
     ensures taken { result ≡ found_by false (slice_get entries.old.items place) }
     ensures items { entries.new.items ≡ cut_out place entries.old.items }
     ensures capacity { deque_capacity entries.new ≡ deque_capacity entries.old }
@@ -97,10 +97,10 @@ pub(crate) fn take_out(
 ///
 /// # Errors
 ///
-/// `Memory` for want of memory alone; the iterator and what the writer holds are then unchanged.
+/// `Memory` only when out of memory; the iterator and what the writer holds are then unchanged.
 pub(crate) fn give(
     alloc: Global,
-    entries: &mut VecDeque<Entry<Item>>,
+    entries: &mut VecDeque<DeskEntry<Item>>,
     place: usize,
     n: u32,
     w: &mut Writer,
@@ -120,7 +120,12 @@ pub(crate) fn give(
 }
 
 /// Appends the batch of an iterator. Answers whether something is left behind it.
-fn next_of(alloc: Global, entry: &mut Entry<Item>, n: u32, w: &mut Writer) -> Result<bool, Memory>
+fn next_of(
+    alloc: Global,
+    entry: &mut DeskEntry<Item>,
+    n: u32,
+    w: &mut Writer,
+) -> Result<bool, Memory>
     requires { length w.old.bytes ≡ REPLY_START }
     ensures next { IfOk result (λ more. IsNext n w.old w.new entry.old.item entry.new.item more) }
     ensures rest { entry.new ≡ record entry.old { item = entry.new.item } }

@@ -1,10 +1,10 @@
 //! A desk that passes share.
 
 ghost use Rattle.std.specs.Prelude.{◌≡◌, ◌+◌, [], length, IfOk, OnErr};
-ghost use Rattle.td_cell.specs.Passes.{Belongs, IsOpening, IsSplitOff, SameCell, SameNumbers, knowledge, opened};
-ghost use Rattle.td_cell.specs.Rules.{first_view, meeting, opener, split_off, Learns};
-ghost use Rattle.td_desk.specs.Acting.{GoesOn, no_marks};
-ghost use Rattle.td_desk.specs.Sharing.{InOrder, IsDrawable, MayAdd, MayUse, StaysInOrder, Turns};
+ghost use Rattle.td_cell.specs.Passes.{Belongs, IsOpening, IsSplitOff, SameCell, SameNumbers, knowledge, opened_book};
+ghost use Rattle.td_cell.specs.Rules.{first_view, met_view, opener, split_off, Learns};
+ghost use Rattle.td_desk.specs.Acting.{ExtendsHistory, no_marks};
+ghost use Rattle.td_desk.specs.Sharing.{InOrder, IsDrawable, MayAdd, MayUse, StaysInOrder, ActsInTurn};
 ghost use Rattle.td_desk.specs.declared.act.Act.TheVariants as act;
 ghost use Rattle.td_desk.specs.declared.act.Reply.TheVariants as reply;
 
@@ -15,7 +15,7 @@ use std::alloc::Global;
 use std::sync::Wait;
 use td_cdr::{Memory, Text, Writer};
 use td_cell::{Cell, Pass};
-use td_iter::{Entry, Item};
+use td_iter::{DeskEntry, Item};
 
 /// What one session calls the desk through: it keeps what the session has seen of the desk and done on it.
 pub type DeskPass = Pass<DeskBook>;
@@ -32,10 +32,10 @@ impl SharedDesk {
     ///
     /// # Errors
     ///
-    /// `Memory` for want of memory alone.
+    /// `Memory` only when out of memory.
     pub fn open(alloc: Global) -> Result<(SharedDesk, DeskPass), Memory>
         ensures own { IfOk result (λ r. Belongs r.1 r.0.cell × IsOpening r.1) }
-        ensures opened { IfOk result (λ r. opened r.0.cell ≡ []) }
+        ensures opened { IfOk result (λ r. opened_book r.0.cell ≡ []) }
         ensures seen { IfOk result (λ r. knowledge r.1 ≡ first_view [] 0 0) }
         ensures order { IfOk result (λ r. InOrder (knowledge r.1)) }
     {
@@ -71,8 +71,8 @@ impl SharedDesk {
         requires split_off { IsSplitOff pass.old told }
         ensures own { SameCell pass.new pass.old }
         ensures opening { IsOpening pass.new }
-        ensures learned { Learns GoesOn length (λ _. no_marks)
-            (meeting (knowledge pass.old) (knowledge told)) (knowledge pass.new) }
+        ensures learned { Learns ExtendsHistory length (λ _. no_marks)
+            (met_view (knowledge pass.old) (knowledge told)) (knowledge pass.new) }
     {
         self.cell.meet(pass, told)
     }
@@ -85,7 +85,7 @@ impl SharedDesk {
     pub fn draw<R: Wait>(&self, rt: &R, pass: &mut DeskPass) -> Result<u64, DeskFault>
         requires { Belongs pass.old self.now.cell }
         ensures own { SameCell pass.new pass.old }
-        ensures turned { Turns (knowledge pass.old) act.Draw (reply.Drawn result)
+        ensures turned { ActsInTurn (knowledge pass.old) act.Draw (reply.Drawn result)
             (knowledge pass.new) }
         ensures once { (knowledge pass.new).turns ≡ (knowledge pass.old).turns + 1 }
         ensures same { SameNumbers (knowledge pass.old) (knowledge pass.new) }
@@ -109,12 +109,12 @@ impl SharedDesk {
         &self,
         rt: &R,
         pass: &mut DeskPass,
-        entry: Entry<Item>,
-    ) -> Option<Entry<Item>>
+        entry: DeskEntry<Item>,
+    ) -> Option<DeskEntry<Item>>
         requires own { Belongs pass.old self.now.cell }
         requires drawn { MayAdd (knowledge pass.old) entry.number }
         ensures own { SameCell pass.new pass.old }
-        ensures turned { Turns (knowledge pass.old) (act.Add entry) (reply.Added result)
+        ensures turned { ActsInTurn (knowledge pass.old) (act.Add entry) (reply.Added result)
             (knowledge pass.new) }
         ensures once { (knowledge pass.new).turns ≡ (knowledge pass.old).turns + 1 }
         ensures same { SameNumbers (knowledge pass.old) (knowledge pass.new) }
@@ -143,7 +143,8 @@ impl SharedDesk {
     ) -> Result<(u32, bool), DeskFault>
         requires { Belongs pass.old self.now.cell }
         ensures own { SameCell pass.new pass.old }
-        ensures turned { Turns (knowledge pass.old) (act.Left trader number) (reply.Left result)
+        ensures turned { ActsInTurn (knowledge pass.old) (act.Left trader number)
+            (reply.Left result)
             (knowledge pass.new) }
         ensures once { (knowledge pass.new).turns ≡ (knowledge pass.old).turns + 1 }
         ensures same { SameNumbers (knowledge pass.old) (knowledge pass.new) }
@@ -165,7 +166,7 @@ impl SharedDesk {
     /// # Errors
     ///
     /// `Full` exactly where 2^40 calls of iterators were done; else `Absent` exactly where none is called so. `Memory`
-    /// for want of memory alone: the iterator is then as it was. What the writer holds is as it was at each of them.
+    /// only when out of memory: the iterator is then as it was. What the writer holds is as it was at each of them.
     pub fn next_n<R: Wait>(
         &self,
         rt: &R,
@@ -177,7 +178,7 @@ impl SharedDesk {
     ) -> (Writer, Result<bool, DeskFault>)
         requires { Belongs pass.old self.now.cell }
         ensures own { SameCell pass.new pass.old }
-        ensures turned { Turns (knowledge pass.old) (act.Next trader number n begun)
+        ensures turned { ActsInTurn (knowledge pass.old) (act.Next trader number n begun)
             (reply.Next result.0 result.1) (knowledge pass.new) }
         ensures once { (knowledge pass.new).turns ≡ (knowledge pass.old).turns + 1 }
         ensures same { SameNumbers (knowledge pass.old) (knowledge pass.new) }
@@ -209,10 +210,10 @@ impl SharedDesk {
         pass: &mut DeskPass,
         trader: Text,
         number: u64,
-    ) -> Result<Entry<Item>, DeskFault>
+    ) -> Result<DeskEntry<Item>, DeskFault>
         requires { Belongs pass.old self.now.cell }
         ensures own { SameCell pass.new pass.old }
-        ensures turned { Turns (knowledge pass.old) (act.Destroy trader number)
+        ensures turned { ActsInTurn (knowledge pass.old) (act.Destroy trader number)
             (reply.Destroyed result) (knowledge pass.new) }
         ensures once { (knowledge pass.new).turns ≡ (knowledge pass.old).turns + 1 }
         ensures same { SameNumbers (knowledge pass.old) (knowledge pass.new) }

@@ -4,12 +4,12 @@
 use Rattle.std.specs.Prelude.{ℕ, Bool, true, false, List, drop, take, Option, Some, None, Result, Ok, Err}
 use Rattle.td_cdr.specs.Place.{At}
 use Rattle.td_cdr.specs.declared.order.Order.{Order}
-use Rattle.td_codes.specs.Formats.{is_some}
+use Rattle.td_typecode.specs.Formats.{is_nonempty}
 use Rattle.td_desk.specs.Batching.{count_of, is_offers, size_of}
 use Rattle.td_desk.specs.declared.event.Event.{Event}
 use Rattle.td_desk.specs.declared.event.Event.TheVariants as event
 use Rattle.td_ior.specs.Keys.{key_of}
-use Rattle.td_iter.specs.declared.desk.Entry.{Entry}
+use Rattle.td_iter.specs.declared.desk.DeskEntry.{DeskEntry}
 use Rattle.td_iter.specs.declared.item.Item.{Item}
 use Rattle.td_iter.specs.declared.item.Item.TheVariants.{Offers, Ids}
 use Rattle.td_objects.specs.Interfaces.{is_a}
@@ -25,12 +25,12 @@ use Rattle.td_ops.specs.declared.outcome.Outcome.TheVariants.{Done, System}
 use Rattle.td_ops.specs.declared.outcome.Reply.TheVariants as reply
 use Rattle.td_ops.specs.declared.outcome.SystemKind.{SystemKind}
 use Rattle.td_ops.specs.declared.outcome.SystemKind.TheVariants.{BadOperation, Marshal, NoImplement, NoMemory}
-use Rattle.td_reply.specs.Iterating.{gone}
+use Rattle.td_servant.specs.Iterating.{gone}
 use Rattle.td_value.specs.declared.key.Kind.{Kind}
 use Rattle.td_value.specs.declared.key.Kind.TheVariants as kind
 use Rattle.td_value.specs.declared.key.ObjectKey.{ObjectKey}
-use Rattle.td_desk_calls.specs.declared.judging.Asked.{Asked}
-use Rattle.td_desk_calls.specs.declared.judging.Asked.TheVariants.{NextN, Destroy, Inquire}
+use Rattle.td_desk_calls.specs.declared.judging.IteratorRequest.{IteratorRequest}
+use Rattle.td_desk_calls.specs.declared.judging.IteratorRequest.TheVariants.{NextN, Destroy, Inquire}
 use Rattle.td_desk_calls.specs.declared.judging.Inquiry.{Inquiry}
 use Rattle.td_desk_calls.specs.declared.judging.Inquiry.TheVariants.{MaxLeft, IsA, NonExistent, Refused}
 
@@ -56,16 +56,16 @@ iterator_key octets = iterator_of_key (key_of octets)
 -- ---- what a Request asks
 
 -- it spells no call
-abbrev pub refused : SystemKind → (minor : ℕ) → Asked
-refused exception minor = Inquire (Refused exception minor)
+abbrev pub refused_request : SystemKind → (minor : ℕ) → IteratorRequest
+refused_request exception minor = Inquire (Refused exception minor)
 
 -- an iterator has no other operations than these
-abbrev pub asked_of : Call → Asked
-asked_of (call.Change c) = refused BadOperation 0
-asked_of (call.Look l) = refused BadOperation 0
-asked_of (call.Query q) = refused BadOperation 0
-asked_of (call.AddLink l) = refused BadOperation 0
-asked_of (call.Resolve names) = refused BadOperation 0
+abbrev pub asked_of : Call → IteratorRequest
+asked_of (call.Change c) = refused_request BadOperation 0
+asked_of (call.Look l) = refused_request BadOperation 0
+asked_of (call.Query q) = refused_request BadOperation 0
+asked_of (call.AddLink l) = refused_request BadOperation 0
+asked_of (call.Resolve names) = refused_request BadOperation 0
 asked_of (call.Iter iter.MaxLeft) = Inquire MaxLeft
 asked_of (call.Iter (iter.NextN n)) = NextN n
 asked_of (call.Iter iter.Destroy) = Destroy
@@ -73,15 +73,15 @@ asked_of (call.IsA id) = Inquire (IsA id)
 asked_of call.NonExistent = Inquire NonExistent
 
 -- by what its operation and its body are read as
-abbrev pub asked_by : Result (Call × At) OpsFault → Asked
+abbrev pub asked_by : Result (Call × At) OpsFault → IteratorRequest
 asked_by (Ok read) = asked_of read.0
-asked_by (Err fault.BadOperation) = refused BadOperation 0
-asked_by (Err (fault.Marshal place)) = refused Marshal place
-asked_by (Err fault.NoImplement) = refused NoImplement 0
-asked_by (Err fault.Memory) = refused NoMemory 0
+asked_by (Err fault.BadOperation) = refused_request BadOperation 0
+asked_by (Err (fault.Marshal place)) = refused_request Marshal place
+asked_by (Err fault.NoImplement) = refused_request NoImplement 0
+asked_by (Err fault.Memory) = refused_request NoMemory 0
 
 -- the call that it makes of the desk
-abbrev pub event_of : Asked → (trader : List ℕ) → (number : ℕ) → Order → Event
+abbrev pub event_of : IteratorRequest → (trader : List ℕ) → (number : ℕ) → Order → Event
 event_of (NextN n) trader number order = event.Next trader number n order
 event_of Destroy trader number order = event.Destroy trader number
 event_of (Inquire i) trader number order = event.Left trader number
@@ -103,19 +103,19 @@ inquiry_outcome (Refused exception minor) left offers = System exception minor 1
 -- the batch for n of what is left
 abbrev pub batch_outcome : (n : ℕ) → Order → Item → Outcome
 batch_outcome n order (Offers left) =
-    Done (reply.Batch (is_some (drop (count_of n order (Offers left)) left))
+    Done (reply.Batch (is_nonempty (drop (count_of n order (Offers left)) left))
     (take (count_of n order (Offers left)) left))
 batch_outcome n order (Ids left) =
-    Done (reply.IdBatch (is_some (drop (count_of n order (Ids left)) left))
+    Done (reply.IdBatch (is_nonempty (drop (count_of n order (Ids left)) left))
     (take (count_of n order (Ids left)) left))
 
 -- of the iterator that has this left
-abbrev pub outcome_of : Asked → Order → Item → Outcome
+abbrev pub outcome_of : IteratorRequest → Order → Item → Outcome
 outcome_of (NextN n) order item = batch_outcome n order item
 outcome_of Destroy order item = Done reply.Nothing
 outcome_of (Inquire i) order item = inquiry_outcome i (size_of item) (is_offers item)
 
 -- where the iterator is there, and where it isn't
-abbrev pub outcome_by : Asked → Order → Option (Entry Item) → Outcome
+abbrev pub outcome_by : IteratorRequest → Order → Option (DeskEntry Item) → Outcome
 outcome_by asked order None = gone
 outcome_by asked order (Some e) = outcome_of asked order e.item

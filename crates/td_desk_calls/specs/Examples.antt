@@ -6,8 +6,8 @@ use Rattle.td_ops.specs.declared.fault.OpsFault.TheVariants as fault
 use Rattle.td_ops.specs.declared.outcome.Outcome.TheVariants.{Done, System}
 use Rattle.td_ops.specs.declared.outcome.Reply.TheVariants as reply
 use Rattle.td_ops.specs.declared.outcome.SystemKind.TheVariants.{Marshal, ObjectNotExist}
-use Rattle.td_desk_calls.specs.Calls.{asked_by, iterator_key, outcome_by, refused}
-use Rattle.td_desk_calls.specs.declared.judging.Asked.TheVariants.{NextN, Destroy, Inquire}
+use Rattle.td_desk_calls.specs.Calls.{asked_by, iterator_key, outcome_by, refused_request}
+use Rattle.td_desk_calls.specs.declared.judging.IteratorRequest.TheVariants.{NextN, Destroy, Inquire}
 use Rattle.td_desk_calls.specs.declared.judging.Inquiry.TheVariants.{MaxLeft, IsA, NonExistent}
 
 pub record WorkedCalls : Type 0 where
@@ -26,7 +26,7 @@ pub record WorkedCalls : Type 0 where
   pub not_gone : outcome_by (Inquire NonExistent) Big (Some five_left) ≡ Done (reply.Truth false)
   pub taken_off : outcome_by Destroy Big (Some five_left) ≡ Done reply.Nothing
   -- a body that isn't in the grammar
-  pub spells_none : asked_by (Err (fault.Marshal 40)) ≡ refused Marshal 40
-  pub refusal : outcome_by (refused Marshal 40) Big (Some five_left) ≡ System Marshal 40 1
+  pub spells_none : asked_by (Err (fault.Marshal 40)) ≡ refused_request Marshal 40
+  pub refusal : outcome_by (refused_request Marshal 40) Big (Some five_left) ≡ System Marshal 40 1
   -- where it isn't there, that comes first
-  pub gone_first : outcome_by (refused Marshal 40) Big None ≡ System ObjectNotExist 0 1
+  pub gone_first : outcome_by (refused_request Marshal 40) Big None ≡ System ObjectNotExist 0 1

@@ -6,26 +6,26 @@ ghost use Rattle.td_cell.specs.Passes.{Belongs, SameCell, SameNumbers, knowledge
 ghost use Rattle.td_desk.specs.Sharing.{StaysInOrder};
 ghost use Rattle.td_desk_calls.specs.Calls.{asked_by};
 ghost use Rattle.td_desk_calls.specs.Serving.{AnswersFault, ServesIterator};
-ghost use Rattle.td_desk_calls.specs.declared.judging.Asked.TheVariants as asked;
+ghost use Rattle.td_desk_calls.specs.declared.judging.IteratorRequest.TheVariants as asked;
 ghost use Rattle.td_ops.specs.Calls.{call_read};
-ghost use Rattle.td_serve.specs.ReplyBytes.{BeginsReply, IsWritable, reply_for};
-ghost use Rattle.td_reply.specs.Answers.{no_memory};
+ghost use Rattle.td_dispatch.specs.ReplyBytes.{BeginsReply, IsWritable, reply_for};
+ghost use Rattle.td_servant.specs.Answers.{no_memory};
 ghost use Rattle.td_value.specs.declared.key.Kind.TheVariants as kind;
 
 use crate::desk_call::{DeskCall, IteratorCall, last_place};
 use crate::inquiring::{gone, inquiry_outcome};
-use crate::judging::{Asked, Inquiry, judge};
+use crate::judging::{Inquiry, IteratorRequest, judge};
 use std::alloc::Global;
 use std::sync::Wait;
 use td_cdr::{Text, Writer};
 use td_desk::{Begun, DeskFault, DeskPass, SharedDesk};
+use td_dispatch::{Replies, ReplyTo};
 use td_giop::RequestHead;
 use td_ops::{Outcome, Reply};
-use td_serve::{Replies, ReplyTo};
 
 /// Answers a Request for an iterator: reads what it asks, makes one call of the desk, and leaves the reply. Where no
-/// iterator of that trader and number is there the reply is OBJECT_NOT_EXIST, whatever the Request asks; where memory
-/// is wanted it is NO_MEMORY.
+/// iterator of that trader and number is there the reply is OBJECT_NOT_EXIST, whatever the Request asks; when memory
+/// runs out it is NO_MEMORY.
 pub fn answer_request<R: Wait>(
     rt: &R,
     alloc: Global,
@@ -71,7 +71,7 @@ fn answer_asked<R: Wait>(
     pass: &mut DeskPass,
     replies: &mut Replies,
     call: &IteratorCall<'_>,
-    asked: Asked,
+    asked: IteratorRequest,
 ) -> DeskCall
     requires own { Belongs pass.old desk.now.cell }
     requires version { IsWritable call.now.to }
@@ -87,9 +87,9 @@ fn answer_asked<R: Wait>(
             refuse(alloc, replies, call.to)
         }
         Ok(trader) => match asked {
-            Asked::NextN(n) => give_next(rt, alloc, desk, pass, replies, call, trader, n),
-            Asked::Destroy => take_off(rt, alloc, desk, pass, replies, call, trader),
-            Asked::Inquire(inquiry) => {
+            IteratorRequest::NextN(n) => give_next(rt, alloc, desk, pass, replies, call, trader, n),
+            IteratorRequest::Destroy => take_off(rt, alloc, desk, pass, replies, call, trader),
+            IteratorRequest::Inquire(inquiry) => {
                 inquire(rt, alloc, desk, pass, replies, call, trader, inquiry)
             }
         },

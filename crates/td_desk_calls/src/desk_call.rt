@@ -5,7 +5,7 @@ ghost use Rattle.std.specs.Option.{ForSome};
 ghost use Rattle.td_cell.specs.Passes.{knowledge};
 
 use td_desk::DeskPass;
-use td_serve::ReplyTo;
+use td_dispatch::ReplyTo;
 
 /// What a message for an iterator is answered by, beside what it asks.
 #[derive(Drop)]
@@ -23,7 +23,7 @@ pub struct IteratorCall<'m> {
 pub enum DeskCall {
     /// Its call stands at this place of the desk's history, counted from 0.
     At(u64),
-    /// Memory was wanted: the history is as it was.
+    /// Memory ran out: the history is as it was.
     Memory,
     /// As many calls of iterators were done as may be: the history is as it was, and there is no reply.
     Full,

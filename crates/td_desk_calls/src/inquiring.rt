@@ -3,7 +3,7 @@
 ghost use Rattle.std.specs.Prelude.{◌≡◌, IsTrue};
 ghost use Rattle.td_desk_calls.specs.Calls.{inquiry_outcome, interface_over};
 ghost use Rattle.td_ops.specs.Outcomes.{is_short};
-ghost use Rattle.td_reply.specs.Iterating.{gone};
+ghost use Rattle.td_servant.specs.Iterating.{gone};
 
 use crate::judging::Inquiry;
 use td_objects::{Interface, is_a};

@@ -3,9 +3,9 @@
 
 ghost use Rattle.std.specs.Prelude.{◌≡◌, IfErr, IfOk, Result, Err};
 ghost use Rattle.td_cdr.specs.Place.{At};
-ghost use Rattle.td_desk_calls.specs.Calls.{asked_by, asked_of, refused};
+ghost use Rattle.td_desk_calls.specs.Calls.{asked_by, asked_of, refused_request};
 ghost use Rattle.td_ops.specs.Calls.{call_read};
-ghost use Rattle.td_ops.specs.Refusals.{Told};
+ghost use Rattle.td_ops.specs.Refusals.{ReadsAs};
 ghost use Rattle.td_ops.specs.declared.call.Call.{Call as called};
 ghost use Rattle.td_value.specs.declared.key.Kind.TheVariants as kind;
 
@@ -16,7 +16,7 @@ use td_value::Kind;
 
 /// What a Request for an iterator asks.
 #[derive(Drop)]
-pub enum Asked {
+pub enum IteratorRequest {
     /// At most so many of the items that are left.
     NextN(u32),
     /// That it be taken off the desk.
@@ -42,13 +42,13 @@ pub enum Inquiry {
 ///
 /// # Errors
 ///
-/// `Memory` for want of memory alone, to read it.
+/// `Memory` only when out of memory, to read it.
 pub(crate) fn judge(
     alloc: Global,
     number: u64,
     operation: &[u8],
     body: &Reader,
-) -> Result<Asked, Memory>
+) -> Result<IteratorRequest, Memory>
     ensures { IfOk result
         (λ a. a ≡ asked_by (call_read (kind.Iterator number) operation.now body.now)) }
 {
@@ -63,38 +63,38 @@ pub(crate) fn judge(
 ///
 /// # Errors
 ///
-/// `Memory` where memory was wanted to read it.
-fn refuse(fault: OpsFault) -> Result<Asked, Memory>
-    ensures { (reading : Result (called × At) OpsFault) (at : At) → Told at (Err fault) reading
+/// `Memory` when memory ran out to read it.
+fn refuse(fault: OpsFault) -> Result<IteratorRequest, Memory>
+    ensures { (reading : Result (called × At) OpsFault) (at : At) → ReadsAs at (Err fault) reading
         → IfOk result (λ a. a ≡ asked_by reading) }
 {
     match fault {
-        OpsFault::BadOperation => Ok(refused(SystemKind::BadOperation, 0)),
-        OpsFault::Marshal(place) => Ok(refused(SystemKind::Marshal, place)),
-        OpsFault::NoImplement => Ok(refused(SystemKind::NoImplement, 0)),
+        OpsFault::BadOperation => Ok(refused_request(SystemKind::BadOperation, 0)),
+        OpsFault::Marshal(place) => Ok(refused_request(SystemKind::Marshal, place)),
+        OpsFault::NoImplement => Ok(refused_request(SystemKind::NoImplement, 0)),
         OpsFault::Memory => Err(Memory),
     }
 }
 
-fn refused(exception: SystemKind, minor: u32) -> Asked
-    ensures { result ≡ refused exception minor }
+fn refused_request(exception: SystemKind, minor: u32) -> IteratorRequest
+    ensures { result ≡ refused_request exception minor }
 {
-    Asked::Inquire(Inquiry::Refused(exception, minor))
+    IteratorRequest::Inquire(Inquiry::Refused(exception, minor))
 }
 
 /// What a call asks of an iterator, which has no other operations than these.
-fn asked_of(call: Call) -> Asked
+fn asked_of(call: Call) -> IteratorRequest
     ensures { result ≡ asked_of call }
 {
     match call {
         Call::Iter(call) => match call {
-            IterCall::MaxLeft => Asked::Inquire(Inquiry::MaxLeft),
-            IterCall::NextN { n } => Asked::NextN(n),
-            IterCall::Destroy => Asked::Destroy,
+            IterCall::MaxLeft => IteratorRequest::Inquire(Inquiry::MaxLeft),
+            IterCall::NextN { n } => IteratorRequest::NextN(n),
+            IterCall::Destroy => IteratorRequest::Destroy,
         },
-        Call::IsA(id) => Asked::Inquire(Inquiry::IsA(id)),
-        Call::NonExistent => Asked::Inquire(Inquiry::NonExistent),
+        Call::IsA(id) => IteratorRequest::Inquire(Inquiry::IsA(id)),
+        Call::NonExistent => IteratorRequest::Inquire(Inquiry::NonExistent),
         Call::Change(_) | Call::Look(_) | Call::Query(_) | Call::AddLink(_) | Call::Resolve(_) =>
-            refused(SystemKind::BadOperation, 0),
+            refused_request(SystemKind::BadOperation, 0),
     }
 }

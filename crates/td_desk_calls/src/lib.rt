@@ -11,7 +11,7 @@ mod locating;
 
 pub use answering::answer_request;
 pub use desk_call::{DeskCall, IteratorCall};
-pub use judging::{Asked, Inquiry};
+pub use judging::{Inquiry, IteratorRequest};
 pub use key::iterator_key;
 pub use laws::worked_calls;
 pub use locating::locate;

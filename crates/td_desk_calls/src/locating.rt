@@ -5,21 +5,21 @@ ghost use Rattle.std.specs.Option.{ForSome};
 ghost use Rattle.td_cell.specs.Passes.{Belongs, SameCell, SameNumbers, knowledge};
 ghost use Rattle.td_desk.specs.Sharing.{StaysInOrder};
 ghost use Rattle.td_desk_calls.specs.Serving.{LeavesLocated, LeavesNone, LocatesIterator};
-ghost use Rattle.td_serve.specs.ReplyBytes.{IsWritable};
+ghost use Rattle.td_dispatch.specs.ReplyBytes.{IsWritable};
 
 use crate::desk_call::{DeskCall, IteratorCall, last_place};
 use std::alloc::Global;
 use std::sync::Wait;
 use td_cdr::{Memory, Text};
 use td_desk::{DeskFault, DeskPass, SharedDesk};
-use td_serve::Replies;
+use td_dispatch::Replies;
 
 /// Answers a LocateRequest for an iterator: OBJECT_HERE where one of that trader and number is on the desk, else
 /// UNKNOWN_OBJECT. Its reply is always expected.
 ///
 /// # Errors
 ///
-/// `Memory` for want of memory alone; the desk wasn't called then.
+/// `Memory` only when out of memory; the desk wasn't called then.
 pub fn locate<R: Wait>(
     rt: &R,
     alloc: Global,

@@ -1,4 +1,5 @@
-//! Iterators and writers for the tests. What is too long for them is answered as want of memory, which no test has.
+//! Iterators and writers for the tests. What is too long for them is answered as running out of memory, which no test
+//! has.
 
 ghost use Rattle.std.specs.Prelude.{◌≡◌, ◌<◌, IfOk, OnOk};
 ghost use Rattle.td_iter.specs.Heads.{AreSmallIds};
@@ -7,7 +8,7 @@ ghost use Rattle.td_iter.specs.declared.limits.TheConstants.{REPLY_START};
 use std::alloc::Global;
 use td_cdr::{List, Memory, Order, Text, Writer};
 use td_desk::Begun;
-use td_iter::{Entry, IdIter, Item, REPLY_START};
+use td_iter::{DeskEntry, IdIter, Item, REPLY_START};
 
 /// A writer that holds as many bytes as stand before the body of a reply.
 pub fn begun(alloc: Global, order: Order) -> Result<Begun, Memory> {
@@ -45,12 +46,12 @@ fn add_id(alloc: Global, ids: &mut List<Text>, id: &[u8]) -> Result<(), Memory>
 }
 
 /// An iterator of the trader A over these ids.
-pub fn entry(alloc: Global, number: u64, bytes: &[u8]) -> Result<Entry<Item>, Memory>
+pub fn entry(alloc: Global, number: u64, bytes: &[u8]) -> Result<DeskEntry<Item>, Memory>
     ensures { IfOk result (λ e. e.number ≡ number) }
 {
     let trader = Text::from_slice(alloc, b"A")?;
     let item = Item::Ids(ids(alloc, bytes)?);
-    Ok(Entry {
+    Ok(DeskEntry {
         trader,
         number,
         item,

@@ -4,7 +4,7 @@ use Rattle.std.specs.Prelude.{◌+◌, Bool, true, false, List, count_by, length
 use Rattle.td_walk.specs.declared.trace.TraceItem.{TraceItem}
 use Rattle.td_walk.specs.declared.trace.TraceItem.TheVariants as item
 use Rattle.td_walk.specs.declared.trace.Visit.{Visit}
-use Rattle.td_walk_laws.specs.Walks.{answer_in}
+use Rattle.td_query_walk.specs.Walks.{answer_in}
 use Rattle.td_drill.specs.declared.tally.Tally.{Tally}
 
 unfoldable pub is_search : TraceItem → Bool

@@ -4,8 +4,8 @@ ghost use Rattle.std.specs.Prelude.{◌≡◌, ◌++◌, length, IfOk, OnOk};
 ghost use Rattle.td_drill.specs.Drills.{Drills};
 ghost use Rattle.td_drill.specs.Lines.{drill_line, group_part, walks_part};
 
-use crate::asking::ask_all;
 use crate::counting::count_all;
+use crate::queries::ask_all;
 use crate::tally::Tally;
 use std::alloc::Global;
 use td_cdr::{Memory, Octets};
@@ -65,7 +65,7 @@ fn drill_group<W: Words>(
 ///
 /// # Errors
 ///
-/// `Memory` for want of memory, or where a number has no place in 64 bits.
+/// `Memory` when out of memory, or where a number has no place in 64 bits.
 pub fn drill<W: Words>(alloc: Global, opened: Opened, words: &mut W) -> Result<Octets, Memory>
     requires { length opened.seed ≡ 32 }
     ensures { IfOk result (λ line.

@@ -2,13 +2,13 @@
 //! (OMG's Trading Object Service, interface Lookup, query).
 #![tactic(auto)]
 
-mod asking;
 mod counting;
 mod drilling;
 mod laws;
+mod queries;
 mod tally;
 
-pub use asking::drill_query;
 pub use drilling::drill;
 pub use laws::worked_drills;
+pub use queries::drill_query;
 pub use tally::Tally;

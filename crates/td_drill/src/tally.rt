@@ -2,7 +2,7 @@
 
 ghost use Rattle.std.specs.Prelude.{◌≡◌, ◌+◌, cond, count_by, length, IfOk};
 ghost use Rattle.td_drill.specs.Tallies.{is_repeat, is_search, no_walk, tally_of, together};
-ghost use Rattle.td_walk_laws.specs.Walks.{answer_in};
+ghost use Rattle.td_query_walk.specs.Walks.{answer_in};
 
 use td_cdr::Memory;
 use td_walk::{TraceItem, Visit};

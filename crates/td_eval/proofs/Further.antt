@@ -5,12 +5,12 @@ use Rattle.std.specs.List.{find}
 use Rattle.std.specs.Str.{bytes_eq}
 use Rattle.td_lang.specs.declared.expr.Constraint.{Constraint}
 use Rattle.td_lang.specs.declared.expr.Constraint.TheVariants as constraint
-use Rattle.td_codes.specs.declared.code.Any.{Any}
+use Rattle.td_typecode.specs.declared.code.Any.{Any}
 use Rattle.td_value.specs.declared.structures.Property.{Property}
 use Rattle.td_eval.specs.Mentioning.{Names, constraint_names}
 use Rattle.td_eval.specs.Properties.{property}
 use Rattle.td_eval.specs.Reading.{Agree, HasNone}
-use Rattle.td_eval.specs.Values.{is_true, matching}
+use Rattle.td_eval.specs.Values.{is_true, matches_constraint}
 use Rattle.td_eval.proofs.Agreeing.{reads}
 
 either : (b : Bool) (x : Property) (u v : Option Property)
@@ -32,7 +32,7 @@ agree m more [] h = tt
 agree m more (name ∷ names) h = (behind m more name h.0, agree m more names h.1)
 
 pub further : (c : Constraint) (m more : List Property) → HasNone more (constraint_names c)
-    → matching (m ++ more) c ≡ matching m c
+    → matches_constraint (m ++ more) c ≡ matches_constraint m c
 further constraint.Empty m more h = refl
 further (constraint.Is e) m more h =
     ap is_true (reads (m ++ more) m e (agree m more (constraint_names (constraint.Is e)) h))

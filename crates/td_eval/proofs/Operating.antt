@@ -4,7 +4,7 @@ use Rattle.std.proofs.Common.{Some, None, option_map, refl, ap, sym, ◌∙◌}
 use Rattle.std.specs.Option.{option_and_then}
 use Rattle.std.specs.List.{list_any}
 use Rattle.std.proofs.lemmas.List.{drop_more, drop_all}
-use Rattle.td_codes.specs.declared.code.Value.{Value}
+use Rattle.td_typecode.specs.declared.code.Value.{Value}
 use Rattle.td_eval.specs.declared.simple.Simple.{Simple}
 use Rattle.td_eval.specs.declared.simple.Sort.{Sort}
 use Rattle.td_eval.specs.Comparing.{equals}

@@ -6,7 +6,7 @@ use Rattle.std.proofs.lemmas.List.{drop_more, drop_all, append-nil}
 use Rattle.td_lang.specs.declared.expr.Part.{Part}
 use Rattle.td_value.specs.declared.structures.Property.{Property}
 use Rattle.td_eval.specs.Expansion.{part_text, in_front, concatenation, if_short, expansion}
-use Rattle.td_eval.specs.Putting.{Puts}
+use Rattle.td_eval.specs.Putting.{PutsText}
 
 -- what the parts that are left make of what was made
 abbrev pub rest_of : List ℕ → List Property → List ℕ → List Part → Option (List ℕ)
@@ -25,28 +25,28 @@ regrouped : (made t : List ℕ) (o : Option (List ℕ))
 regrouped made t None = refl
 regrouped made t (Some rest) = ap (λ x. Some x) (append_assoc made t rest)
 
-puts : (found : Option (List ℕ)) (made now : List ℕ) (put : Bool) (o : Option (List ℕ)) → Puts found made now put
+puts : (found : Option (List ℕ)) (made now : List ℕ) (put : Bool) (o : Option (List ℕ)) → PutsText found made now put
     → put ≡ true → in_front (Some now) o ≡ in_front (Some made) (in_front found o)
 puts None made now put o h t = absurd (cc)
 puts (Some x) made now put o h t = ap (λ y. in_front (Some y) o) h.1 ∙ regrouped made x o
 
 pub step : (constraint : List ℕ) (map : List Property) (made now : List ℕ) (parts : List Part) (i : ℕ) (part : Part)
     (put : Bool)
-    → i < length parts → Puts (part_text constraint map (get_or parts i part)) made now put → put ≡ true
+    → i < length parts → PutsText (part_text constraint map (get_or parts i part)) made now put → put ≡ true
     → rest_of constraint map now (drop (i + 1) parts) ≡ rest_of constraint map made (drop i parts)
 step constraint map made now parts i part put h p t =
     ap if_short (puts (part_text constraint map (get_or parts i part)) made now put
     (concatenation constraint map (drop (i + 1) parts)) p t)
     ∙ ap (rest_of constraint map made) (sym (drop_more parts i part h))
 
-none_put : (found : Option (List ℕ)) (made now : List ℕ) (put : Bool) (o : Option (List ℕ)) → Puts found made now put
+none_put : (found : Option (List ℕ)) (made now : List ℕ) (put : Bool) (o : Option (List ℕ)) → PutsText found made now put
     → put ≡ false → if_short (in_front (Some made) (in_front found o)) ≡ None
 none_put None made now put o h t = refl
 none_put (Some x) made now put o h t = absurd (let e = h.0 in cc)
 
 pub stop : (constraint : List ℕ) (map : List Property) (made now : List ℕ) (parts : List Part) (i : ℕ) (part : Part)
     (put : Bool)
-    → i < length parts → Puts (part_text constraint map (get_or parts i part)) made now put → put ≡ false
+    → i < length parts → PutsText (part_text constraint map (get_or parts i part)) made now put → put ≡ false
     → rest_of constraint map made (drop i parts) ≡ None
 stop constraint map made now parts i part put h p t =
     ap (rest_of constraint map made) (drop_more parts i part h)

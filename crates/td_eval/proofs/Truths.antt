@@ -11,7 +11,7 @@ use Rattle.td_eval.specs.declared.simple.Simple.{Simple}
 use Rattle.td_eval.specs.declared.simple.Simple.TheVariants.{Number, Text, Truth}
 use Rattle.td_eval.specs.Comparing.{comparison, equals, occurrence, order_of}
 use Rattle.td_eval.specs.Fractions.{fraction, with_denominator_turned, sum, difference, product, quotient}
-use Rattle.td_eval.specs.Kinds.{Content, One, Many}
+use Rattle.td_eval.specs.Kinds.{LangValue, One, Many}
 use Rattle.td_eval.specs.Values.{application, asks, binary, is_arithmetic, is_connective, is_of, is_true, membership}
 use Rattle.td_eval.specs.Values.{negation, simple_value, truth_in, within}
 use Rattle.td_eval.proofs.Evaluating.{of_number}
@@ -267,11 +267,11 @@ found_if : (wanted found : Bool) → IsTruth (if wanted then Some (Truth found) 
 found_if true found = refl
 found_if false found = refl
 
-member : (x : Simple) (c : Content) → IsTruth (membership x c)
+member : (x : Simple) (c : LangValue) → IsTruth (membership x c)
 member x (One y) = refl
 member x (Many s xs) = found_if (is_of s x) (list_any (equals x) xs)
 
-pub within_is_truth : (x : Option Simple) (c : Option Content) → IsTruth (within x c)
+pub within_is_truth : (x : Option Simple) (c : Option LangValue) → IsTruth (within x c)
 within_is_truth None c = refl
 within_is_truth (Some x) None = refl
 within_is_truth (Some x) (Some c) = member x c

@@ -2,12 +2,12 @@
 -- "TypeCodes", on kinds.
 use Rattle.std.specs.Prelude.{ℕ, pos, nat_eq, Bool, ◌||◌, if◌then◌else◌, List, [], ◌∷◌, Option, None, Some, option_map}
 use Rattle.std.specs.Prelude.{option_and_then}
-use Rattle.td_codes.specs.declared.code.TypeCode.{TypeCode}
-use Rattle.td_codes.specs.declared.code.Any.{Any}
-use Rattle.td_codes.specs.declared.code.TypeCode.TheOpen as c
-use Rattle.td_codes.specs.declared.code.TypeCode.TheOpen.{Value-F}
-use Rattle.td_codes.specs.declared.code.Value.{Value, out-Value}
-use Rattle.td_codes.specs.Same.{Shapes, empty, node, Shape, shape}
+use Rattle.td_typecode.specs.declared.code.TypeCode.{TypeCode}
+use Rattle.td_typecode.specs.declared.code.Any.{Any}
+use Rattle.td_typecode.specs.declared.code.TypeCode.TheOpen as c
+use Rattle.td_typecode.specs.declared.code.TypeCode.TheOpen.{Value-F}
+use Rattle.td_typecode.specs.declared.code.Value.{Value, out-Value}
+use Rattle.td_typecode.specs.Same.{Shapes, empty, node, Shape, shape}
 use Rattle.td_eval.specs.declared.simple.Simple.{Simple}
 use Rattle.td_eval.specs.declared.simple.Simple.TheVariants.{Number, Text, Truth}
 use Rattle.td_eval.specs.declared.simple.Sort.{Sort}
@@ -15,9 +15,9 @@ use Rattle.td_eval.specs.declared.simple.Sort.TheVariants.{Numbers, Texts, Truth
 use Rattle.td_eval.specs.Fractions.{fraction}
 
 -- a value of the languages, or a list of values of one sort
-pub data Content : Type 0 where
-  One : Simple → Content
-  Many : Sort → List Simple → Content
+pub data LangValue : Type 0 where
+  One : Simple → LangValue
+  Many : Sort → List Simple → LangValue
 
 -- ---- kinds
 
@@ -102,21 +102,21 @@ abbrev pub all_under : ℕ → List Value → Option (List Simple)
 all_under kind [] = Some []
 all_under kind (v ∷ vs) = with_item (simple_under kind v) (all_under kind vs)
 
-abbrev pub list_of : Option Sort → Option (List Simple) → Option Content
+abbrev pub list_of : Option Sort → Option (List Simple) → Option LangValue
 list_of None xs = None
 list_of (Some s) None = None
 list_of (Some s) (Some xs) = Some (Many s xs)
 
 -- what a sequence is whose items are of a kind
-unfoldable pub list_under : ℕ → Value → Option Content
+unfoldable pub list_under : ℕ → Value → Option LangValue
 list_under kind v = list_of (sort_of kind) (option_and_then (all_under kind) (items_of v))
 
 -- ---- properties
 
-abbrev pub content_under : Option ℕ → Any → Option Content
+abbrev pub content_under : Option ℕ → Any → Option LangValue
 content_under None a = option_map One (simple_under (kind_of a.code) a.value)
 content_under (Some kind) a = list_under kind a.value
 
 -- what an any is, its aliases taken off
-unfoldable pub content_of : Any → Option Content
+unfoldable pub content_of : Any → Option LangValue
 content_of a = content_under (item_kind a.code) a

@@ -2,6 +2,6 @@
 use Rattle.std.specs.Prelude.{◌≡◌, ℕ, Bool, true, false, List, ◌++◌, Option, None, Some}
 
 -- what there is was put behind the bytes, or there is nothing
-abbrev pub Puts : Option (List ℕ) → (before after : List ℕ) → Bool → Type 0
-Puts None before after put = put ≡ false
-Puts (Some t) before after put = (put ≡ true) × (after ≡ before ++ t)
+abbrev pub PutsText : Option (List ℕ) → (before after : List ℕ) → Bool → Type 0
+PutsText None before after put = put ≡ false
+PutsText (Some t) before after put = (put ≡ true) × (after ≡ before ++ t)

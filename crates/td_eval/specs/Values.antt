@@ -19,11 +19,11 @@ use Rattle.td_eval.specs.declared.simple.Sort.{Sort}
 use Rattle.td_eval.specs.declared.simple.Sort.TheVariants.{Numbers, Texts, Truths}
 use Rattle.td_eval.specs.Fractions.{fraction, sum, difference, product, quotient}
 use Rattle.td_eval.specs.Comparing.{comparison, equals, occurrence}
-use Rattle.td_eval.specs.Kinds.{Content, One, Many}
+use Rattle.td_eval.specs.Kinds.{LangValue, One, Many}
 use Rattle.td_eval.specs.Properties.{property, content_named}
 
 -- what an operator takes: a list is an operand of none
-abbrev pub operand : Option Content → Option Simple
+abbrev pub operand : Option LangValue → Option Simple
 operand None = None
 operand (Some (One x)) = Some x
 operand (Some (Many s xs)) = None
@@ -94,11 +94,11 @@ is_of Truths (Truth p) = true
 is_of s x = false
 
 -- whether a value is an item of a list of its kind; nothing is an item of an empty one
-abbrev pub membership : Simple → Content → Option Simple
+abbrev pub membership : Simple → LangValue → Option Simple
 membership x (One y) = None
 membership x (Many s xs) = if is_of s x then Some (Truth (list_any (equals x) xs)) else None
 
-abbrev pub within : Option Simple → Option Content → Option Simple
+abbrev pub within : Option Simple → Option LangValue → Option Simple
 within None list = None
 within (Some x) list = option_and_then (membership x) list
 
@@ -114,7 +114,7 @@ truth_in (Some (Truth p)) = Some p
 truth_in o = None
 
 module _ (map : List Property) where
-  abbrev pub value_layer : Expr-F (Option Content) → Option Content
+  abbrev pub value_layer : Expr-F (Option LangValue) → Option LangValue
   value_layer (layer.Binary o a b) = option_map One (binary o (operand a) (operand b))
   value_layer (layer.Within a name) = option_map One (within (operand a) (content_named map name))
   value_layer (layer.Not a) = option_map One (option_and_then negation (operand a))
@@ -124,8 +124,8 @@ module _ (map : List Property) where
   value_layer (layer.Str t) = Some (One (Text t))
   value_layer (layer.Truth p) = Some (One (Truth p))
 
-  unfoldable pub value : Expr → Option Content
-  value = fold-Expr (Option Content) value_layer
+  unfoldable pub value : Expr → Option LangValue
+  value = fold-Expr (Option LangValue) value_layer
 
   -- the value, where it is no list
   unfoldable pub simple_value : Expr → Option Simple
@@ -134,9 +134,9 @@ module _ (map : List Property) where
   -- ---- constraints
 
   -- an empty constraint matches, and any other one where its value is TRUE
-  abbrev pub matching : Constraint → Bool
-  matching constraint.Empty = true
-  matching (constraint.Is e) = is_true (simple_value e)
+  abbrev pub matches_constraint : Constraint → Bool
+  matches_constraint constraint.Empty = true
+  matches_constraint (constraint.Is e) = is_true (simple_value e)
 
   abbrev pub Matches : Constraint → Type 0
-  Matches c = IsTrue (matching c)
+  Matches c = IsTrue (matches_constraint c)

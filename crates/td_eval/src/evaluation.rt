@@ -160,7 +160,7 @@ pub(crate) fn operand_of<'a>(e: &'a Expr, map: &'a [Property]) -> Option<Operand
 ///
 /// # Errors
 ///
-/// `Memory` for want of memory alone.
+/// `Memory` only when out of memory.
 pub fn value_of(alloc: Global, e: &Expr, map: &List<Property>) -> Result<Option<Simple>, Memory>
     ensures { IfOk result (λ found. found ≡ simple_value map.now e.now) }
 {

@@ -5,7 +5,7 @@ ghost use Rattle.td_lang.specs.Spelling.{needs_backslash, inside_quotes};
 ghost use Rattle.td_eval.specs.Operands.{view};
 ghost use Rattle.td_eval.specs.Expansion.{number_literal, text_literal, truth_literal, literal, importer_text};
 ghost use Rattle.td_eval.specs.Expansion.{part_text, expansion};
-ghost use Rattle.td_eval.specs.Putting.{Puts};
+ghost use Rattle.td_eval.specs.Putting.{PutsText};
 
 use crate::property::simple_named;
 use crate::simple::Operand;
@@ -71,7 +71,7 @@ fn truth_literal(truth: bool) -> &'static [u8]
 /// Puts a value's literal behind the bytes, and answers whether it has one.
 fn put_literal(alloc: Global, out: &mut Vec<u8>, value: Operand) -> Result<bool, Memory>
     ensures { IfOk result (λ put.
-        Puts (literal (view value.entry)) out.old.items out.new.items put) }
+        PutsText (literal (view value.entry)) out.old.items out.new.items put) }
 {
     match value {
         Operand::Number(numerator, denominator) => {
@@ -114,7 +114,7 @@ fn put_part(
     constraint: &[u8],
     map: &[Property],
 ) -> Result<bool, Memory>
-    ensures { IfOk result (λ put. Puts (part_text constraint.now map.now part.now)
+    ensures { IfOk result (λ put. PutsText (part_text constraint.now map.now part.now)
         out.old.items out.new.items put) }
 {
     match part {
@@ -139,7 +139,7 @@ fn put_part(
 ///
 /// # Errors
 ///
-/// `Memory` for want of memory alone.
+/// `Memory` only when out of memory.
 #[tactic(auto, using(crate::proofs::Parts::by_part))]
 pub fn expand_recipe(
     alloc: Global,

@@ -18,7 +18,7 @@ ghost use Rattle.td_eval.specs.Expansion.{text_literal, expansion};
 ghost use Rattle.td_eval.specs.Mentioning.{names_in, constraint_names, preference_names, names_asked, is_mentioned};
 ghost use Rattle.td_eval.specs.Ranking.{IsArranged, IsRanked};
 ghost use Rattle.td_eval.specs.Reading.{Agree, HasNone};
-ghost use Rattle.td_eval.specs.Values.{matching, simple_value};
+ghost use Rattle.td_eval.specs.Values.{matches_constraint, simple_value};
 
 /// An expression's value rests on the properties alone whose names it mentions.
 #[tactic(auto, using(crate::proofs::Agreeing::reads))]
@@ -32,7 +32,7 @@ pub fn values_rest_on_the_names()
 #[tactic(auto, using(crate::proofs::Further::further))]
 pub fn further_properties_change_nothing()
     ensures { (c : Constraint) (m more : List Property) → HasNone more (constraint_names c)
-        → matching (m ++ more) c ≡ matching m c }
+        → matches_constraint (m ++ more) c ≡ matches_constraint m c }
 {}
 
 /// The names that are asked for stand there once each, and are just those that the constraint or the preference

@@ -2,7 +2,7 @@
 //! Language").
 
 ghost use Rattle.std.specs.Prelude.{◌≡◌, Ok};
-ghost use Rattle.td_eval.specs.Values.{matching};
+ghost use Rattle.td_eval.specs.Values.{matches_constraint};
 
 use crate::evaluation::truth_of;
 use td_cdr::{List, Memory};
@@ -15,14 +15,14 @@ use td_value::Property;
 ///
 /// None: it answers `Ok` always.
 pub fn matches(constraint: &Constraint, map: &List<Property>) -> Result<bool, Memory>
-    ensures { result ≡ Ok (matching map.now constraint.now) }
+    ensures { result ≡ Ok (matches_constraint map.now constraint.now) }
 {
     Ok(is_matching(constraint, map.as_slice()))
 }
 
 #[tactic(auto, using(crate::proofs::Truths::is_matching))]
 fn is_matching(constraint: &Constraint, map: &[Property]) -> bool
-    ensures { result ≡ matching map.now constraint.now }
+    ensures { result ≡ matches_constraint map.now constraint.now }
 {
     match constraint {
         Constraint::Empty => true,

@@ -82,7 +82,7 @@ fn add_preference(
 ///
 /// # Errors
 ///
-/// `Memory` for want of memory alone.
+/// `Memory` only when out of memory.
 #[tactic(auto, using(crate::proofs::Mentions::more))]
 pub fn names_asked(
     alloc: Global,

@@ -158,7 +158,7 @@ fn shuffle<W: Words>(offers: &mut Vec<Offer>, words: &mut W)
 ///
 /// # Errors
 ///
-/// `Memory` for want of memory alone; no word was then drawn.
+/// `Memory` only when out of memory; no word was then drawn.
 pub fn rank<W: Words>(
     preference: &Preference,
     offers: List<Offer>,

@@ -6,10 +6,10 @@ use Rattle.td_cdr.specs.Place.{At}
 use Rattle.td_cdr.specs.Format.{Read, ◌>>=◌, value_named}
 use Rattle.td_cdr.specs.Sound.{◌&◌, text}
 use Rattle.td_cdr.specs.LawfulFormats.{reads_back}
-use Rattle.td_codes.specs.declared.code.Any.{Any}
-use Rattle.td_codes.specs.declared.code.TypeCode.TheVariants as code
-use Rattle.td_codes.specs.declared.code.Value.TheVariants as value
-use Rattle.td_codes.specs.declared.reference.Ior.{Ior}
+use Rattle.td_typecode.specs.declared.code.Any.{Any}
+use Rattle.td_typecode.specs.declared.code.TypeCode.TheVariants as code
+use Rattle.td_typecode.specs.declared.code.Value.TheVariants as value
+use Rattle.td_typecode.specs.declared.reference.Ior.{Ior}
 use Rattle.td_value.specs.declared.enumerations.FollowOption.TheVariants.{LocalOnly}
 use Rattle.td_value.specs.declared.enumerations.PropertyMode.TheVariants.{Normal}
 use Rattle.td_value.specs.declared.structures.Property.{Property}
@@ -229,10 +229,10 @@ apart e f a more others h v w here there =
     let one = read-back e a more h v here in
     let two = read-back f a others h w there in
     let met = ok_is (user_id e, one.next) (user_id f, two.next) (sym one.id ∙ two.id) in
-    let told = id-tells e f (ap (λ (p : List ℕ × At). p.0) met) one.next in
+    let content = id-tells e f (ap (λ (p : List ℕ × At). p.0) met) one.next in
     let ends = ap (λ (p : List ℕ × At). (row_of f).members.format.reads p.1) met in
     ap (λ (p : UserException × At). p.0)
-    (ok_is (e, one.last) (f, two.last) (sym one.members ∙ told ∙ ends ∙ two.members))
+    (ok_is (e, one.last) (f, two.last) (sym one.members ∙ content ∙ ends ∙ two.members))
 
 pub written-apart : (e f : UserException) (order : Order) (place : ℕ) (more others : List ℕ) → IsWritable e order place
     → IsWritable f order place → exception_piece e order place ++ more ≡ exception_piece f order place ++ others → e ≡ f

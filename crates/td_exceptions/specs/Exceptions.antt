@@ -5,8 +5,8 @@ use Rattle.std.specs.Prelude.{ℕ, List, ◌++◌, codes, Some, None, refl}
 use Rattle.td_cdr.specs.Format.{Piece, ◌then◌}
 use Rattle.td_cdr.specs.Sound.{Sound, ◌&◌, variant, constant, text, sequence}
 use Rattle.td_cdr.specs.declared.value_fault.ValueFault.{ValueFault}
-use Rattle.td_codes.specs.Outermost.{type_code}
-use Rattle.td_codes.specs.References.{reference}
+use Rattle.td_typecode.specs.Outermost.{type_code}
+use Rattle.td_typecode.specs.References.{reference}
 use Rattle.td_value.specs.Values.{any_value}
 use Rattle.td_value.specs.Enumerations.{follow_option}
 use Rattle.td_value.specs.Structures.{property, policy, prop_struct}

@@ -9,5 +9,5 @@ mod writing;
 
 pub use exception::UserException;
 pub use ids::user_id;
-pub use laws::exceptions_are_told_apart;
+pub use laws::exceptions_are_distinct;
 pub use writing::put_user;

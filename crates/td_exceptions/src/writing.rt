@@ -14,7 +14,7 @@ use td_cdr::{Memory, Spelled, Writer, put_four, put_three, put_two};
 ///
 /// # Errors
 ///
-/// `Memory` for want of memory or of room; some of it may then be written.
+/// `Memory` when out of memory or of room; some of it may then be written.
 pub fn put_user(alloc: Global, w: &mut Writer, exception: &UserException) -> Result<(), Memory>
     ensures { Puts (exception_piece exception.now) w.old w.new result }
 {

@@ -7,7 +7,7 @@ use Rattle.td_lang.specs.declared.expr.Part.{Part}
 use Rattle.td_lang.specs.declared.fault.LangFault.{LangFault}
 use Rattle.td_lang.specs.declared.fault.LangFault.TheVariants as fault
 use Rattle.td_lang.proofs.SpelledRecipes.{refused, spelled, too_long}
-use Rattle.td_register.specs.Judged.{told}
+use Rattle.td_register.specs.Judged.{is_recipe_fault}
 use Rattle.td_register.specs.Proxies.{is_recipe}
 
 pub read-passes : (text : List ℕ) (parts : List Part) → length text ≤ 4096 → SpellsParts parts text →
@@ -17,7 +17,7 @@ read-passes text parts short h = ap is_some (sym (spelled parts text short h))
 
 -- the answer of the test where the reader meets a fault
 pub fault-tells : (text : List ℕ) (f : LangFault) → ReadsRecipe text (Err f) →
-    IfOk (told f) (λ (passes : Bool). passes ≡ is_recipe text)
+    IfOk (is_recipe_fault f) (λ (passes : Bool). passes ≡ is_recipe text)
 unfolding is_recipe
 fault-tells text (fault.Syntax place) h = sym (ap is_some (refused text place h.0 h.1))
 fault-tells text (fault.Float place) h = absurd h

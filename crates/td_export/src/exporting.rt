@@ -8,9 +8,9 @@ ghost use Rattle.td_ops.specs.declared.outcome.Reply.TheVariants as reply;
 ghost use Rattle.td_exceptions.specs.declared.exception.UserException.TheVariants as user;
 ghost use Rattle.td_store.specs.OfferLists.{most_offers};
 ghost use Rattle.td_store.specs.declared.record.OfferRecord.{OfferRecord as Kept};
-ghost use Rattle.td_register.specs.Causes.{given, limit_if, raise_if, unless_full};
-ghost use Rattle.td_register.specs.Judged.{Accepts, IsAdded, Judges};
-ghost use Rattle.td_register.specs.Registers.{export_cause, exported, incarnation_now, last_number, next_id};
+ghost use Rattle.td_register.specs.Causes.{with_cause, limit_if, raise_if, unless_full};
+ghost use Rattle.td_register.specs.Judged.{AcceptsChange, IsAdded, IsFirstCause};
+ghost use Rattle.td_register.specs.Registers.{export_cause, exported_offer, incarnation_now, last_number, next_id};
 ghost use Rattle.td_register.specs.Named.{open_type};
 ghost use Rattle.td_register.specs.Registers.{interface_cause, offer_cause, passes_limit, with_offer};
 
@@ -31,7 +31,7 @@ const MOST_OFFERS: usize = 1_000_000;
 
 /// Refuses a nil reference.
 fn check_reference(alloc: Global, reference: &Ior) -> Result<(), Fault>
-    ensures { Judges (raise_if (is_nil reference.now) (user.InvalidObjectRef reference.now))
+    ensures { IsFirstCause (raise_if (is_nil reference.now) (user.InvalidObjectRef reference.now))
         result }
 {
     if is_nil(reference) {
@@ -45,7 +45,7 @@ fn check_reference(alloc: Global, reference: &Ior) -> Result<(), Fault>
 /// Refuses a type that isn't open to new offers, and a reference whose interface doesn't conform to
 /// the type's.
 fn check_type(alloc: Global, store: &Store, type_name: &Text, reference: &Ior) -> Result<(), Fault>
-    ensures { Judges (given (open_type store.now.types.types type_name.now)
+    ensures { IsFirstCause (with_cause (open_type store.now.types.types type_name.now)
         (interface_cause store.now type_name.now reference.now)) result }
 {
     check_open(alloc, &store.types, type_name)?;
@@ -59,7 +59,7 @@ pub(crate) fn check_offer(
     type_name: &Text,
     properties: &List<Property>,
 ) -> Result<(), Fault>
-    ensures { Judges (offer_cause store.now type_name.now properties.now) result }
+    ensures { IsFirstCause (offer_cause store.now type_name.now properties.now) result }
 {
     let properties = properties.as_slice();
     let demanded = store.types.full_properties(type_name.as_slice());
@@ -80,7 +80,7 @@ pub(crate) fn check_limits(
     reference: &Ior,
     properties: &List<Property>,
 ) -> Result<(), Fault>
-    ensures { Judges (limit_if (passes_limit store.now reference.now properties.now)) result }
+    ensures { IsFirstCause (limit_if (passes_limit store.now reference.now properties.now)) result }
 {
     if store.offers.len() >= MOST_OFFERS {
         return Err(Fault::Refused(Refusal::Limit));
@@ -100,7 +100,8 @@ fn check_export(
     type_name: &Text,
     properties: &List<Property>,
 ) -> Result<(), Fault>
-    ensures { Judges (export_cause store.now reference.now type_name.now properties.now) result }
+    ensures { IsFirstCause (export_cause store.now reference.now type_name.now properties.now)
+        result }
 {
     check_reference(alloc, reference)?;
     check_type(alloc, store, type_name, reference)?;
@@ -127,7 +128,8 @@ fn new_offer(
     properties: &Shared<List<Property>>,
 ) -> Result<OfferRecord, Memory>
     requires { store.now.last_offer < last_number }
-    ensures { IfOk result (λ o. o ≡ exported store.now reference.now type_name.now properties.now) }
+    ensures { IfOk result (λ o. o ≡ exported_offer store.now reference.now type_name.now
+        properties.now) }
 {
     let (reference, (service_type, properties)) = copy_three(
         alloc, reference, type_name, properties,
@@ -171,7 +173,8 @@ fn add_export(
     requires given { AllByRecursion (λ (o : Kept). (0 < o.number)
         × (o.number ≤ store.old.last_offer)) store.old.offers }
     requires none { export_cause store.old reference.now service_type.now properties.now ≡ None }
-    ensures { IsAdded (exported store.old reference.now service_type.now properties.now) store.old
+    ensures { IsAdded (exported_offer store.old reference.now service_type.now properties.now)
+        store.old
         store.new result }
 {
     let offer = new_offer(alloc, store, reference, service_type, properties)?;
@@ -183,7 +186,7 @@ fn add_export(
 /// # Errors
 ///
 /// `InvalidObjectRef`; `IllegalServiceType`, `UnknownServiceType`; `InterfaceTypeMismatch`; what is at
-/// fault with a property; IMP_LIMIT past a limit, and where no more changes are accepted; `Memory` for want
+/// fault with a property; IMP_LIMIT past a limit, and where no more changes are accepted; `Memory` when out
 /// of memory.
 pub fn export(
     alloc: Global,
@@ -196,10 +199,10 @@ pub fn export(
     // The numbers of the offers were given.
     requires given { AllByRecursion (λ (o : Kept). (0 < o.number)
         × (o.number ≤ store.old.last_offer)) store.old.offers }
-    ensures { Accepts (change.Export reference service_type properties)
+    ensures { AcceptsChange (change.Export reference service_type properties)
         (unless_full full (export_cause store.old reference service_type properties)
         (reply.Id (next_id store.old))
-        (with_offer store.old (exported store.old reference service_type properties)))
+        (with_offer store.old (exported_offer store.old reference service_type properties)))
         store.old store.new result }
 {
     check_export(alloc, store, &reference, &service_type, &properties)?;

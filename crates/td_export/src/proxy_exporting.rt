@@ -7,8 +7,8 @@ ghost use Rattle.td_ior.specs.Profiles.{iiop_of};
 ghost use Rattle.td_ops.specs.declared.call.Change.TheVariants as change;
 ghost use Rattle.td_ops.specs.declared.outcome.Reply.TheVariants as reply;
 ghost use Rattle.td_store.specs.declared.record.OfferRecord.{OfferRecord as Kept};
-ghost use Rattle.td_register.specs.Causes.{raise_if, given, unless_full, unless_supported};
-ghost use Rattle.td_register.specs.Judged.{Accepts, IsAdded, Judges, told};
+ghost use Rattle.td_register.specs.Causes.{raise_if, with_cause, unless_full, unless_supported};
+ghost use Rattle.td_register.specs.Judged.{AcceptsChange, IsAdded, IsFirstCause, is_recipe_fault};
 ghost use Rattle.td_register.specs.Proxies.{export_proxy_cause, exported_proxy, is_recipe, policies_cause};
 ghost use Rattle.td_register.specs.Registers.{last_number, next_id, with_offer};
 
@@ -25,7 +25,7 @@ use td_register::{
 use td_store::{OfferRecord, ProxyPart, Store};
 use td_value::{Ior, Policy, Property};
 
-/// Whether a reference has an IIOP profile. Memory is wanted only for a copy of one.
+/// Whether a reference has an IIOP profile. Memory is taken only for a copy of one.
 fn has_profile(alloc: Global, target: &Ior) -> bool
     ensures { result ≡ is_some (iiop_of target.now) }
 {
@@ -36,9 +36,9 @@ fn has_profile(alloc: Global, target: &Ior) -> bool
     }
 }
 
-/// Whether a text with this fault is a recipe: it isn't, if the fault isn't want of memory.
-fn told(fault: LangFault) -> Result<bool, Memory>
-    ensures { result ≡ told fault }
+/// Whether a text with this fault is a recipe: it isn't, if the fault isn't running out of memory.
+fn is_recipe_fault(fault: LangFault) -> Result<bool, Memory>
+    ensures { result ≡ is_recipe_fault fault }
 {
     match fault {
         LangFault::Memory => Err(Memory),
@@ -54,13 +54,13 @@ fn is_recipe(alloc: Global, text: &[u8]) -> Result<bool, Memory>
 {
     match read_recipe(alloc, text) {
         Ok(_) => Ok(true),
-        Err(fault) => told(fault),
+        Err(fault) => is_recipe_fault(fault),
     }
 }
 
 /// Refuses proxy offers where they aren't supported.
 fn check_supported(supported: bool) -> Result<(), Fault>
-    ensures { Judges (unless_supported supported) result }
+    ensures { IsFirstCause (unless_supported supported) result }
 {
     if supported {
         Ok(())
@@ -71,7 +71,7 @@ fn check_supported(supported: bool) -> Result<(), Fault>
 
 /// Refuses a target that has no IIOP profile.
 fn check_target(alloc: Global, target: &Ior) -> Result<(), Fault>
-    ensures { Judges (raise_if (not (is_some (iiop_of target.now)))
+    ensures { IsFirstCause (raise_if (not (is_some (iiop_of target.now)))
         (user.InvalidLookupRef target.now)) result }
 {
     if !has_profile(alloc, target) {
@@ -82,7 +82,7 @@ fn check_target(alloc: Global, target: &Ior) -> Result<(), Fault>
 
 /// Refuses a text that is no recipe.
 fn check_recipe(alloc: Global, recipe: &Text) -> Result<(), Fault>
-    ensures { Judges (raise_if (not (is_recipe recipe.now)) (user.IllegalRecipe recipe.now))
+    ensures { IsFirstCause (raise_if (not (is_recipe recipe.now)) (user.IllegalRecipe recipe.now))
         result }
 {
     if !is_recipe(alloc, recipe.as_slice())? {
@@ -95,7 +95,7 @@ fn check_recipe(alloc: Global, recipe: &Text) -> Result<(), Fault>
 
 /// Refuses the first policy whose name is that of one before it.
 fn check_policies(alloc: Global, policies: &[Policy]) -> Result<(), Fault>
-    ensures { Judges (policies_cause [] policies.now) result }
+    ensures { IsFirstCause (policies_cause [] policies.now) result }
 {
     let mut seen = nothing_seen(alloc);
     for policy in policies {
@@ -117,7 +117,7 @@ fn check_export_proxy(
     properties: &List<Property>,
     part: &ProxyPart,
 ) -> Result<(), Fault>
-    ensures { Judges (export_proxy_cause store.now target.now type_name.now properties.now
+    ensures { IsFirstCause (export_proxy_cause store.now target.now type_name.now properties.now
         part.now.recipe part.now.policies) result }
 {
     check_supported(store.attributes.supports_proxy_offers)?;
@@ -181,7 +181,7 @@ fn add_proxy(
 ///
 /// NO_IMPLEMENT; `IllegalServiceType`, `UnknownServiceType`; `InvalidLookupRef`; what is at fault with a
 /// property; `IllegalRecipe`; `DuplicatePolicyName`; IMP_LIMIT past a limit, and where no more changes are
-/// accepted; `Memory` for want of memory.
+/// accepted; `Memory` when out of memory.
 pub fn export_proxy(
     alloc: Global,
     store: &mut Store,
@@ -196,7 +196,7 @@ pub fn export_proxy(
     // The numbers of the offers were given.
     requires given { AllByRecursion (λ (o : Kept). (0 < o.number)
         × (o.number ≤ store.old.last_offer)) store.old.offers }
-    ensures { Accepts (change.ExportProxy target service_type properties if_match_all recipe
+    ensures { AcceptsChange (change.ExportProxy target service_type properties if_match_all recipe
         policies) (unless_full full (export_proxy_cause store.old target service_type properties
         recipe policies) (reply.Id (next_id store.old)) (with_offer store.old
         (exported_proxy store.old target service_type properties

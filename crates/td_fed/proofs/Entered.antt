@@ -4,23 +4,24 @@ use Rattle.std.proofs.Common.{Some, length, slice_get, slice_set, refl, sym, ap,
 use Rattle.std.proofs.Common.{append-nil, ltb-true, ltb-false, Result, Ok, Err, IfOk, OnErr}
 use Rattle.std.proofs.lemmas.Bool.{eqb-true, eq-eqb}
 use Rattle.td_cdr.specs.Marks.{Marks}
-use Rattle.td_cdr.specs.declared.memory.Memory.{Memory as Wanting}
-use Rattle.td_codes.specs.declared.reference.Ior.{Ior}
+use Rattle.td_cdr.specs.declared.memory.Memory.{Memory as OutOfMemory}
+use Rattle.td_typecode.specs.declared.reference.Ior.{Ior}
 use Rattle.td_fed.proofs.Points.{begun-rise, watched-length}
-use Rattle.td_fed.specs.Entering.{Asks, Enters, IsAsked, IsEntered, IsEnteredSoFar, asking_of, begin_item, entry_of}
+use Rattle.td_fed.specs.Entering.{AsksQuestion, EntersTrader, IsAsked, IsEntered, IsEnteredSoFar, asking_of, begin_item}
+use Rattle.td_fed.specs.Entering.{entry_of}
 use Rattle.td_fed.specs.Entering.{entered, not_entered, only_watched}
 use Rattle.td_fed.specs.Entering.{answered as has-answer, begun as has-begun, opens, refused, repeated}
-use Rattle.td_places.specs.Targets.{inside_group}
+use Rattle.td_targets.specs.Targets.{inside_group}
 use Rattle.td_fed.specs.Trails.{IsShown, marks_of, own_marks_at}
-use Rattle.td_fed.specs.Visiting.{Begins, course, start_of}
-use Rattle.td_fed.specs.declared.entering.Entry.{Entry}
+use Rattle.td_fed.specs.Visiting.{BeginsVisit, course, start_of}
+use Rattle.td_fed.specs.declared.entering.VisitStart.{VisitStart}
 use Rattle.td_ops.specs.declared.call.Query.{Query}
 use Rattle.td_register.specs.declared.history.Accepted.{Accepted}
 use Rattle.td_register.specs.Stores.{Store}
 use Rattle.td_changes.specs.declared.bounds.Bounds.{Bounds}
 use Rattle.td_trader.proofs.Begun.{marks_once}
 use Rattle.td_trader.specs.Beginning.{after_begin, begin_of}
-use Rattle.td_trader.specs.Worlds.{Begun, View, Watches, history_at, number_between, store_seen}
+use Rattle.td_trader.specs.Worlds.{BeginsQuery, View, Watches, history_at, number_between, store_seen}
 use Rattle.td_trader.specs.Worlds.{after_begin as seen_after}
 use Rattle.td_trader.specs.declared.begin.Begin.{Begin}
 use Rattle.td_trader.specs.declared.begin.Begin.TheVariants.{Refused, Repeat, Search, Path}
@@ -28,8 +29,8 @@ use Rattle.td_walk.specs.Peering.{Exchange}
 use Rattle.td_walk.specs.declared.answer.Next.TheVariants.{Forward}
 use Rattle.td_walk.specs.declared.trace.Address.{Address}
 use Rattle.td_walk.specs.declared.trace.TraceItem.{TraceItem}
-use Rattle.td_walk_laws.specs.Walks.{passing, searching, shown, visited}
-use Rattle.td_walk_laws.specs.Walks.{refused as walk-refused, repeat as walk-repeat}
+use Rattle.td_query_walk.specs.Walks.{passing, searching, peer_answers, visited}
+use Rattle.td_query_walk.specs.Walks.{refused as walk-refused, repeat as walk-repeat}
 
 -- ---- one trader of a list
 
@@ -111,7 +112,7 @@ item-marks k point (Repeat number) j = sym (same-cond (nat_eq k j))
 item-marks k point (Search l) j = append-nil (cond (nat_eq k j) (l.mark ∷ []) [])
 item-marks k point (Path l) j = sym (same-cond (nat_eq k j))
 
-no-calls : (k point : ℕ) (b : Begin) → shown (begin_item k point b ∷ []) ≡ []
+no-calls : (k point : ℕ) (b : Begin) → peer_answers (begin_item k point b ∷ []) ≡ []
 no-calls k point (Refused o) = refl
 no-calls k point (Repeat number) = refl
 no-calls k point (Search l) = refl
@@ -120,7 +121,7 @@ no-calls k point (Path l) = refl
 module _ (others : List Accepted → Type 0) (later : Marks → Marks → Type 0) where
   -- a query that begins
   pub shown-begun : (w u : List View) (k point : ℕ) (q : Query) (b : Begin) (x z y : List TraceItem)
-      → Begun others later w k q b u → point ≡ length (history_at u k) → z ≡ x
+      → BeginsQuery others later w k q b u → point ≡ length (history_at u k) → z ≡ x
       → y ≡ z ++ begin_item k point b ∷ [] → IsShown w [] x y u []
   shown-begun w u k point q b x z y h seen_at kept noted =
       let m = h.meanwhile in
@@ -164,9 +165,9 @@ module _ (others : List Accepted → Type 0) (later : Marks → Marks → Type 0
 
   -- ---- how it began
 
-  enters : (w u : List View) (k point : ℕ) (q : Query) (b : Begin) → Begun others later w k q b u
+  enters : (w u : List View) (k point : ℕ) (q : Query) (b : Begin) → BeginsQuery others later w k q b u
       → point ≡ length (history_at u k)
-      → Enters (Begins others later) w k q (entry_of b) (begin_item k point b) u
+      → EntersTrader (BeginsVisit others later) w k q (entry_of b) (begin_item k point b) u
   enters w u k point q (Refused o) h seen_at =
       refused (record { begin = Refused o; begun = h; is = ap (λ p. start_of p (Refused o)) seen_at })
   enters w u k point q (Repeat number) h seen_at =
@@ -176,43 +177,43 @@ module _ (others : List Accepted → Type 0) (later : Marks → Marks → Type 0
   enters w u k point q (Path l) h seen_at =
       opens (record { begin = Path l; begun = h; is = refl }) passing
 
-  pub is-entered : (w u : List View) (k point : ℕ) (q : Query) (b : Begin) (e : Entry) (x z y : List TraceItem)
-      → Begun others later w k q b u → point ≡ length (history_at u k) → e ≡ entry_of b → z ≡ x
-      → y ≡ z ++ begin_item k point b ∷ [] → IsEntered (Begins others later) w k q e x y u
+  pub is-entered : (w u : List View) (k point : ℕ) (q : Query) (b : Begin) (e : VisitStart) (x z y : List TraceItem)
+      → BeginsQuery others later w k q b u → point ≡ length (history_at u k) → e ≡ entry_of b → z ≡ x
+      → y ≡ z ++ begin_item k point b ∷ [] → IsEntered (BeginsVisit others later) w k q e x y u
   is-entered w u k point q b e x z y h seen_at is kept noted = record {
     head = begin_item k point b;
     notes = noted ∙ ap (λ t. t ++ begin_item k point b ∷ []) kept;
-    enters = subst (λ (f : Entry). Enters (Begins others later) w k q f (begin_item k point b) u) (sym is)
+    enters = subst (λ (f : VisitStart). EntersTrader (BeginsVisit others later) w k q f (begin_item k point b) u) (sym is)
         (enters w u k point q b h seen_at);
   }
 
-  pub entered-if : (w u : List View) (k point : ℕ) (q : Query) (b : Begin) (r : Result Entry Wanting)
-      (x z y : List TraceItem) → Begun others later w k q b u → point ≡ length (history_at u k)
+  pub entered-if : (w u : List View) (k point : ℕ) (q : Query) (b : Begin) (r : Result VisitStart OutOfMemory)
+      (x z y : List TraceItem) → BeginsQuery others later w k q b u → point ≡ length (history_at u k)
       → IfOk r (λ e. e ≡ entry_of b) → z ≡ x → y ≡ z ++ begin_item k point b ∷ []
-      → IfOk r (λ e. IsEntered (Begins others later) w k q e x y u)
+      → IfOk r (λ e. IsEntered (BeginsVisit others later) w k q e x y u)
   entered-if w u k point q b (Ok e) x z y h seen_at is kept noted =
       is-entered w u k point q b e x z y h seen_at is kept noted
   entered-if w u k point q b (Err m) x z y h seen_at is kept noted = tt
 
-  -- ---- where memory was wanted
+  -- ---- when memory ran out
 
   -- nothing was noted
   pub entered-nothing : (w : List View) (k : ℕ) (q : Query) (x y : List TraceItem) → y ≡ x
-      → IsEnteredSoFar (Begins others later) (Watches others later) w k q x y w
+      → IsEnteredSoFar (BeginsVisit others later) (Watches others later) w k q x y w
   entered-nothing w k q x y kept = record { items = []; notes = kept ∙ sym (append-nil x); enters = not_entered }
 
   pub entered-watched : (w u : List View) (k : ℕ) (q : Query) (x y : List TraceItem) → Watches others later w k u
-      → y ≡ x → IsEnteredSoFar (Begins others later) (Watches others later) w k q x y u
+      → y ≡ x → IsEnteredSoFar (BeginsVisit others later) (Watches others later) w k q x y u
   entered-watched w u k q x y h kept = record {
     items = [];
     notes = kept ∙ sym (append-nil x);
     enters = only_watched h;
   }
 
-  pub entered-unless : (w u : List View) (k point : ℕ) (q : Query) (b : Begin) (r : Result Entry Wanting)
-      (x z y : List TraceItem) → Begun others later w k q b u → point ≡ length (history_at u k) → z ≡ x
+  pub entered-unless : (w u : List View) (k point : ℕ) (q : Query) (b : Begin) (r : Result VisitStart OutOfMemory)
+      (x z y : List TraceItem) → BeginsQuery others later w k q b u → point ≡ length (history_at u k) → z ≡ x
       → y ≡ z ++ begin_item k point b ∷ []
-      → OnErr r (IsEnteredSoFar (Begins others later) (Watches others later) w k q x y u)
+      → OnErr r (IsEnteredSoFar (BeginsVisit others later) (Watches others later) w k q x y u)
   entered-unless w u k point q b (Ok e) x z y h seen_at kept noted = tt
   entered-unless w u k point q b (Err m) x z y h seen_at kept noted = record {
     items = begin_item k point b ∷ [];
@@ -224,16 +225,16 @@ module _ (others : List Accepted → Type 0) (later : Marks → Marks → Type 0
 
   module _ (home : Address) (w : List View) (words : ℕ → ℕ) (calls : List Exchange) (k : ℕ) (target : Ior) (q : Query)
       (inside : inside_group home w target ≡ Some k) where
-    comes-to : (e : Entry) (head : TraceItem) (u : List View) → Enters (Begins others later) w k q e head u
-        → Asks (Begins others later) (inside_group home) (course w words calls) (Forward target q) (asking_of e)
+    comes-to : (e : VisitStart) (head : TraceItem) (u : List View) → EntersTrader (BeginsVisit others later) w k q e head u
+        → AsksQuestion (BeginsVisit others later) (inside_group home) (course w words calls) (Forward target q) (asking_of e)
         (head ∷ []) (course u words calls)
     comes-to e head u (refused b) = has-answer (visited inside (walk-refused b))
     comes-to e head u (repeated b) = has-answer (visited inside (walk-repeat b))
     comes-to e head u (opens b o) = has-begun refl inside b o
 
-    pub entered-asked : (e : Entry) (u : List View) (x y : List TraceItem)
-        → IsEntered (Begins others later) w k q e x y u
-        → IsAsked (Begins others later) (inside_group home) (course w words calls) (Forward target q) (asking_of e) x y
+    pub entered-asked : (e : VisitStart) (u : List View) (x y : List TraceItem)
+        → IsEntered (BeginsVisit others later) w k q e x y u
+        → IsAsked (BeginsVisit others later) (inside_group home) (course w words calls) (Forward target q) (asking_of e) x y
         (course u words calls)
     entered-asked e u x y h = record {
       items = h.head ∷ [];

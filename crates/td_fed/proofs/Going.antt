@@ -9,21 +9,21 @@ use Rattle.td_fed.proofs.Showing.{shown-none, shown-on}
 use Rattle.td_fed.proofs.Turned.{AllRead, Walking, ended-at-once, first-open, last, less-left, none-left}
 use Rattle.td_fed.proofs.Turned.{still-read, turned}
 use Rattle.td_fed.specs.Entering.{IsEntered, IsEnteredSoFar}
-use Rattle.td_places.specs.Targets.{inside_group}
+use Rattle.td_targets.specs.Targets.{inside_group}
 use Rattle.td_fed.specs.Trails.{DrawsOn, Goes, IsShown}
-use Rattle.td_fed.specs.Turning.{IsTurn, IsTurnSoFar}
-use Rattle.td_fed.specs.Visiting.{Begins, Visited, VisitedSoFar, course}
-use Rattle.td_fed.specs.declared.entering.Entry.{Entry}
-use Rattle.td_fed.specs.declared.entering.Entry.TheVariants as entry
+use Rattle.td_fed.specs.Turning.{IsWalkTurn, IsTurnSoFar}
+use Rattle.td_fed.specs.Visiting.{BeginsVisit, WalksTo, VisitedSoFar, course}
+use Rattle.td_fed.specs.declared.entering.VisitStart.{VisitStart}
+use Rattle.td_fed.specs.declared.entering.VisitStart.TheVariants as entry
 use Rattle.td_ops.specs.declared.call.Query.{Query}
 use Rattle.td_register.specs.declared.history.Accepted.{Accepted}
 use Rattle.td_trader.specs.Worlds.{View, Watches}
-use Rattle.td_visit.specs.Standing.{Standing as Frame}
+use Rattle.td_visit.specs.Standing.{FrameState as Frame}
 use Rattle.td_walk.specs.Peering.{Exchange}
 use Rattle.td_walk.specs.declared.trace.Address.{Address}
 use Rattle.td_walk.specs.declared.trace.TraceItem.{TraceItem}
 use Rattle.td_walk.specs.declared.trace.Visit.{Visit}
-use Rattle.td_walk_laws.specs.Reach.{IsRead}
+use Rattle.td_query_walk.specs.Reach.{HasReadPath}
 
 module _ (others : List Accepted → Type 0) (later : Marks → Marks → Type 0) (home : Address) where
   -- The loop began with these traders, words, calls, items and open visits, and has come to those.
@@ -36,12 +36,12 @@ module _ (others : List Accepted → Type 0) (later : Marks → Marks → Type 0
     pub read : AllRead stack
     pub some_left : 0 < length stack
     pub walking : (v : List View) (k : ℕ) (q : Query) (first : Frame) (before : List TraceItem) → stack0 ≡ first ∷ []
-        → IsEntered (Begins others later) v k q (entry.Open first) before notes0 w0
-        → Walking (Begins others later) (inside_group home) (course v words0 calls0) k q stack (course w words calls)
+        → IsEntered (BeginsVisit others later) v k q (entry.Open first) before notes0 w0
+        → Walking (BeginsVisit others later) (inside_group home) (course v words0 calls0) k q stack (course w words calls)
         before notes
 
   pub going-first : (w : List View) (words : ℕ → ℕ) (calls : List Exchange) (notes : List TraceItem)
-      (stack : List Frame) (first : Frame) → stack ≡ first ∷ [] → IsRead first.local
+      (stack : List Frame) (first : Frame) → stack ≡ first ∷ [] → HasReadPath first.local
       → Going w words calls notes stack w words calls notes stack
   going-first w words calls notes stack first is read = record {
     shown = shown-none w calls notes;
@@ -50,7 +50,7 @@ module _ (others : List Accepted → Type 0) (later : Marks → Marks → Type 0
     read = subst AllRead (sym is) (read, tt);
     some_left = let n = ap (λ (fs : List Frame). length fs) is in omega (arith, n);
     walking = λ v k q f before one h.
-        first-open (Begins others later) (inside_group home) (course v words calls) w k q f stack before notes one h;
+        first-open (BeginsVisit others later) (inside_group home) (course v words calls) w k q f stack before notes one h;
   }
 
   module _ (w0 : List View) (words0 : ℕ → ℕ) (calls0 : List Exchange) (notes0 : List TraceItem) (stack0 : List Frame)
@@ -60,75 +60,75 @@ module _ (others : List Accepted → Type 0) (later : Marks → Marks → Type 0
     pub shown-further : IsShown w calls notes notes1 u calls1 → IsShown w0 calls0 notes0 notes1 u calls1
     shown-further shown = shown-on w0 w u calls0 calls calls1 notes0 notes notes1 going.shown shown
 
-    pub goes-further : IsTurn (Begins others later) (inside_group home) (course w words calls) stack None after notes
+    pub goes-further : IsWalkTurn (BeginsVisit others later) (inside_group home) (course w words calls) stack None after notes
         notes1 (course u words1 calls1) → IsShown w calls notes notes1 u calls1 → Goes others later w u
         → DrawsOn words words1 → Going w0 words0 calls0 notes0 stack0 u words1 calls1 notes1 after
     goes-further t shown goes draws = record {
       shown = shown-further shown;
       goes = goes-after others later w0 w u going.goes goes;
       draws = draws-after words0 words words1 going.draws draws;
-      read = still-read (Begins others later) (inside_group home) (is-begun others later) stack after t.items
+      read = still-read (BeginsVisit others later) (inside_group home) (is-begun others later) stack after t.items
           (course w words calls) (course u words1 calls1) t.turns going.read;
-      some_left = none-left (Begins others later) (inside_group home) stack after t.items (course w words calls)
+      some_left = none-left (BeginsVisit others later) (inside_group home) stack after t.items (course w words calls)
           (course u words1 calls1) t.turns;
       walking = λ v k q first before one h.
-          turned (Begins others later) (inside_group home) (course v words0 calls0) (course w words calls)
+          turned (BeginsVisit others later) (inside_group home) (course v words0 calls0) (course w words calls)
           (course u words1 calls1) k q stack after before notes notes1 (going.walking v k q first before one h) t;
     }
 
-    pub is-less : IsTurn (Begins others later) (inside_group home) (course w words calls) stack None after notes notes1
+    pub is-less : IsWalkTurn (BeginsVisit others later) (inside_group home) (course w words calls) stack None after notes notes1
         (course u words1 calls1) → measure_all most after < measure_all most stack
     is-less t =
-        less-left (Begins others later) (inside_group home) (is-begun others later) stack after t.items
+        less-left (BeginsVisit others later) (inside_group home) (is-begun others later) stack after t.items
         (course w words calls) (course u words1 calls1) t.turns going.read
 
     pub is-visited : (visit : Visit) (v : List View) (k : ℕ) (q : Query) (first : Frame) (before : List TraceItem)
-        → IsTurn (Begins others later) (inside_group home) (course w words calls) stack (Some visit) after notes notes1
+        → IsWalkTurn (BeginsVisit others later) (inside_group home) (course w words calls) stack (Some visit) after notes notes1
         (course u words1 calls1) → stack0 ≡ first ∷ []
-        → IsEntered (Begins others later) v k q (entry.Open first) before notes0 w0
-        → Visited others later home (course v words0 calls0) k q before notes1 visit (course u words1 calls1)
+        → IsEntered (BeginsVisit others later) v k q (entry.Open first) before notes0 w0
+        → WalksTo others later home (course v words0 calls0) k q before notes1 visit (course u words1 calls1)
     is-visited visit v k q first before t one h =
-        let x = last (Begins others later) (inside_group home) (course v words0 calls0) (course w words calls)
+        let x = last (BeginsVisit others later) (inside_group home) (course v words0 calls0) (course w words calls)
         (course u words1 calls1) k q stack after before notes notes1 visit (going.walking v k q first before one h) t in
         record { items = x.items; notes = x.notes; walk = x.walk }
 
     pub visited-so-far : (v : List View) (k : ℕ) (q : Query) (first : Frame) (before : List TraceItem)
-        → IsTurnSoFar (Begins others later) (Watches others later) (inside_group home) (course w words calls) stack
+        → IsTurnSoFar (BeginsVisit others later) (Watches others later) (inside_group home) (course w words calls) stack
         notes notes1 (course u words1 calls1) → stack0 ≡ first ∷ []
-        → IsEntered (Begins others later) v k q (entry.Open first) before notes0 w0
+        → IsEntered (BeginsVisit others later) v k q (entry.Open first) before notes0 w0
         → VisitedSoFar others later home (course v words0 calls0) k q before notes1 (course u words1 calls1)
     visited-so-far v k q first before t one h =
-        let x = turned-so-far (Begins others later) (Watches others later) (inside_group home) (course v words0 calls0)
+        let x = turned-so-far (BeginsVisit others later) (Watches others later) (inside_group home) (course v words0 calls0)
         (course w words calls) (course u words1 calls1) k q stack before notes notes1
         (going.walking v k q first before one h) t in
         record { items = x.items; notes = x.notes; walk = x.walk }
 
   -- an entry was made, whatever it is
-  pub begun-so-far : (w u : List View) (words : ℕ → ℕ) (calls : List Exchange) (k : ℕ) (q : Query) (e : Entry)
-      (before now : List TraceItem) → IsEntered (Begins others later) w k q e before now u
+  pub begun-so-far : (w u : List View) (words : ℕ → ℕ) (calls : List Exchange) (k : ℕ) (q : Query) (e : VisitStart)
+      (before now : List TraceItem) → IsEntered (BeginsVisit others later) w k q e before now u
       → VisitedSoFar others later home (course w words calls) k q before now (course u words calls)
   begun-so-far w u words calls k q e before now h =
-      let x = entered-begins (Begins others later) (Watches others later) (inside_group home) (course w words calls) u
+      let x = entered-begins (BeginsVisit others later) (Watches others later) (inside_group home) (course w words calls) u
       k q e before now h in
       record { items = x.items; notes = x.notes; walk = x.walk }
 
   -- none was
   pub unbegun-so-far : (w u : List View) (words : ℕ → ℕ) (calls : List Exchange) (k : ℕ) (q : Query)
-      (before now : List TraceItem) → IsEnteredSoFar (Begins others later) (Watches others later) w k q before now u
+      (before now : List TraceItem) → IsEnteredSoFar (BeginsVisit others later) (Watches others later) w k q before now u
       → VisitedSoFar others later home (course w words calls) k q before now (course u words calls)
   unbegun-so-far w u words calls k q before now h =
-      let x = entered-so-far (Begins others later) (Watches others later) (inside_group home) (course w words calls) u
+      let x = entered-so-far (BeginsVisit others later) (Watches others later) (inside_group home) (course w words calls) u
       k q before now h in
       record { items = x.items; notes = x.notes; walk = x.walk }
 
   -- a visit that asked nothing
   pub at-once : (w u : List View) (words : ℕ → ℕ) (calls : List Exchange) (k : ℕ) (q : Query) (v : Visit)
-      (before now : List TraceItem) → IsEntered (Begins others later) w k q (entry.Ended v) before now u
-      → Visited others later home (course w words calls) k q before now v (course u words calls)
+      (before now : List TraceItem) → IsEntered (BeginsVisit others later) w k q (entry.Ended v) before now u
+      → WalksTo others later home (course w words calls) k q before now v (course u words calls)
   at-once w u words calls k q v before now h =
-      let x = ended-at-once (Begins others later) (inside_group home) (course w words calls) u k q v before now h in
+      let x = ended-at-once (BeginsVisit others later) (inside_group home) (course w words calls) u k q v before now h in
       record { items = x.items; notes = x.notes; walk = x.walk }
 
   pub first-read : (w u : List View) (k : ℕ) (q : Query) (f : Frame) (x y : List TraceItem)
-      → IsEntered (Begins others later) w k q (entry.Open f) x y u → IsRead f.local
+      → IsEntered (BeginsVisit others later) w k q (entry.Open f) x y u → HasReadPath f.local
   first-read w u k q f x y h = entered-read others later w u k q f x y h

@@ -3,11 +3,11 @@ use Rattle.std.proofs.Common.{◌≡◌, ℕ, zero, suc, ◌+◌, ◌-◌, ◌*�
 use Rattle.std.proofs.Common.{ap, subst, arith, ◌⊎◌, inl, inr}
 use Rattle.std.proofs.lemmas.Bool.{cases_lt}
 use Rattle.std.specs.Prelude.{length}
-use Rattle.td_fed.specs.Entering.{opened}
+use Rattle.td_fed.specs.Entering.{new_frame}
 use Rattle.td_store.specs.declared.local.Local.{Local}
 use Rattle.td_walk.specs.declared.answer.StepAnswer.{StepAnswer}
-use Rattle.td_visit.specs.Standing.{Standing as Frame}
-use Rattle.td_walk_laws.specs.Reach.{reach_of}
+use Rattle.td_visit.specs.Standing.{FrameState as Frame}
+use Rattle.td_query_walk.specs.Reach.{reach_of}
 
 -- more answers than a list can have
 abbrev pub most : ℕ
@@ -106,7 +106,7 @@ deeper-base a b p q h positive =
 
 -- a visit begins, which may go less far than the open one
 pub falls-deeper : (b : ℕ) (fs : List Frame) (top : Frame) (l : Local) → reach_of l < reach_of top.local
-    → measure b (fs ++ top ∷ []) (opened l) < measure b fs top
+    → measure b (fs ++ top ∷ []) (new_frame l) < measure b fs top
 unfolding measure
 falls-deeper b [] top l h =
     let z : b ≡ b - 0 = omega arith in

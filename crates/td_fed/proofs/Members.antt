@@ -1,9 +1,9 @@
 -- One trader of a group, and how queries begin in a group.
 use Rattle.std.proofs.Common.{◌≡◌, ℕ, zero, suc, List, [], ◌∷◌, Option, Some, slice_get, slice_set, refl, sym, ap, ◌∙◌}
-use Rattle.td_codes.specs.declared.reference.Ior.{Ior}
+use Rattle.td_typecode.specs.declared.reference.Ior.{Ior}
 use Rattle.td_ops.specs.declared.call.Query.{Query}
 use Rattle.td_trader.specs.Worlds.{View}
-use Rattle.td_walk_laws.specs.Walks.{Start}
+use Rattle.td_query_walk.specs.Walks.{Start}
 
 -- ---- one of a list
 

@@ -7,10 +7,10 @@ use Rattle.td_ops.specs.declared.call.Query.{Query}
 use Rattle.td_ops.specs.declared.outcome.Outcome.{Outcome}
 use Rattle.td_register.specs.declared.history.Accepted.{Accepted}
 use Rattle.td_store.specs.declared.local.Local.{Local}
-use Rattle.td_trader.specs.Worlds.{Begun, Looks, View, Watches}
+use Rattle.td_trader.specs.Worlds.{BeginsQuery, LooksAtTrader, View, Watches}
 use Rattle.td_trader.specs.declared.begin.Begin.{Begin}
 use Rattle.td_walk.specs.Answers.{DrawsGathered, HasDrawn, drawn_by}
-use Rattle.td_walk.specs.Visits.{Reads, visit_of}
+use Rattle.td_walk.specs.Visits.{AnswersRead, visit_of}
 use Rattle.td_walk.specs.declared.answer.StepAnswer.{StepAnswer}
 use Rattle.td_walk.specs.declared.gathering.Gathered.{Gathered}
 
@@ -27,14 +27,14 @@ module _ (others : List Accepted → Type 0) (later : Marks → Marks → Type 0
   goes-after w u v (began {u = m} k q b begun rest) more = began k q b begun (goes-after m u v rest more)
   goes-after w u v (watched {u = m} k seen rest) more = watched k seen (goes-after m u v rest more)
 
-  pub goes-begun : (w u : List View) (k : ℕ) (q : Query) (b : Begin) → Begun others later w k q b u
+  pub goes-begun : (w u : List View) (k : ℕ) (q : Query) (b : Begin) → BeginsQuery others later w k q b u
       → Goes others later w u
   goes-begun w u k q b h = began k q b h stays
 
   pub goes-watched : (w u : List View) (k : ℕ) → Watches others later w k u → Goes others later w u
   goes-watched w u k h = watched k h stays
 
-  pub goes-looked : (w u : List View) (k : ℕ) (l : Look) (a : Outcome × ℕ) → Looks others later w k l a u
+  pub goes-looked : (w u : List View) (k : ℕ) (l : Look) (a : Outcome × ℕ) → LooksAtTrader others later w k l a u
       → Goes others later w u
   goes-looked w u k l a h = watched k (record { seen = h.seen; meanwhile = h.meanwhile; world = h.world }) stays
 
@@ -59,7 +59,7 @@ draws-after before middle after p q = record {
       q.rest k ∙ (p.rest (q.count + k) ∙ ap before e);
 }
 
-draws-gathered : (l : Local) (r : Reads Gathered) (before after : ℕ → ℕ) → DrawsGathered l r before after
+draws-gathered : (l : Local) (r : AnswersRead Gathered) (before after : ℕ → ℕ) → DrawsGathered l r before after
     → DrawsOn before after
 draws-gathered l (Ok r) before after h = record {
   count = drawn_by l r.0;

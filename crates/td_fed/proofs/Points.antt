@@ -8,7 +8,7 @@ use Rattle.td_changes.specs.declared.bounds.Bounds.{Bounds}
 use Rattle.td_fed.proofs.Members.{get-set_other, get-set_same}
 use Rattle.td_fed.proofs.Rising.{rises-most}
 use Rattle.td_fed.specs.Entering.{begin_item}
-use Rattle.td_fed.specs.Trails.{Goes, Rises, began, only_of, points_of, stays, watched}
+use Rattle.td_fed.specs.Trails.{Goes, NeverFalls, began, only_of, points_of, stays, watched}
 use Rattle.td_ops.specs.declared.call.Query.{Query}
 use Rattle.td_register.specs.Causes.{Cause}
 use Rattle.td_register.specs.Stores.{Store}
@@ -18,32 +18,32 @@ use Rattle.td_trader.proofs.Begun.{are_passed_on, are_served}
 use Rattle.td_trader.specs.Beginning.{after_begin, begin_along, begin_here, begin_of, begin_unless, repeated_in}
 use Rattle.td_trader.specs.Beginning.{searched_under}
 use Rattle.td_trader.specs.Queries.{parts_of, path_link, refusal}
-use Rattle.td_trader.specs.Worlds.{Begun, Meanwhile, View, Watches, after_begin as seen_after, history_at}
+use Rattle.td_trader.specs.Worlds.{BeginsQuery, Meanwhile, View, Watches, after_begin as seen_after, history_at}
 use Rattle.td_trader.specs.Worlds.{history_in, store_seen}
 use Rattle.td_trader.specs.declared.begin.Begin.TheVariants as begin
 use Rattle.td_trader.specs.declared.begin.Begin.{Begin}
 
 -- one of them is seen otherwise, and was called at these points
 pub put-rise : (w : List View) (k : ℕ) (v x : View) (points : List ℕ) → slice_get w k ≡ Some v
-    → Rises (length v.history) points (length x.history) → (j : ℕ)
-    → Rises (length (history_at w j)) (only_of k points j) (length (history_at (slice_set w k x) j))
+    → NeverFalls (length v.history) points (length x.history) → (j : ℕ)
+    → NeverFalls (length (history_at w j)) (only_of k points j) (length (history_at (slice_set w k x) j))
 put-rise w k v x points is rise j = by-trader (nat_eq k j) refl
   where
     by-trader : (b : Bool) → nat_eq k j ≡ b
-        → Rises (length (history_at w j)) (cond (nat_eq k j) points []) (length (history_at (slice_set w k x) j))
+        → NeverFalls (length (history_at w j)) (cond (nat_eq k j) points []) (length (history_at (slice_set w k x) j))
     by-trader true at_k =
         let one : k ≡ j = eqb-true k j at_k in
         let there : slice_get (slice_set w k x) j ≡ Some x =
         subst (λ (n : ℕ). slice_get (slice_set w k x) n ≡ Some x) one (get-set_same w k v x is) in
         let before : slice_get w j ≡ Some v = subst (λ (n : ℕ). slice_get w n ≡ Some v) one is in
-        subst (λ (b : Bool). Rises (length (history_at w j)) (cond b points [])
+        subst (λ (b : Bool). NeverFalls (length (history_at w j)) (cond b points [])
         (length (history_at (slice_set w k x) j))) (sym at_k)
-        (subst (λ (o : Option View). Rises (length (history_in o)) points
+        (subst (λ (o : Option View). NeverFalls (length (history_in o)) points
         (length (history_at (slice_set w k x) j))) (sym before)
-        (subst (λ (o : Option View). Rises (length v.history) points (length (history_in o))) (sym there) rise))
+        (subst (λ (o : Option View). NeverFalls (length v.history) points (length (history_in o))) (sym there) rise))
     by-trader false other =
         let same : slice_get (slice_set w k x) j ≡ slice_get w j = get-set_other w k j x (eqb-false k j other) in
-        subst (λ (b : Bool). Rises (length (history_at w j)) (cond b points [])
+        subst (λ (b : Bool). NeverFalls (length (history_at w j)) (cond b points [])
         (length (history_at (slice_set w k x) j))) (sym other)
         (subst (λ (o : Option View). length (history_at w j) ≤ length (history_in o)) (sym same)
         (le_refl (length (history_at w j))))
@@ -93,9 +93,9 @@ module _ (others : List Accepted → Type 0) (later : Marks → Marks → Type 0
       omega (arith, size)
 
   -- the item of a query that begins shows how many changes are seen behind it
-  pub begun-rise : (q : Query) (b : Begin) (u : List View) → Begun others later w k q b u → (point : ℕ)
+  pub begun-rise : (q : Query) (b : Begin) (u : List View) → BeginsQuery others later w k q b u → (point : ℕ)
       → point ≡ length (history_at u k) → (j : ℕ)
-      → Rises (length (history_at w j)) (points_of j (begin_item k point b ∷ [])) (length (history_at u j))
+      → NeverFalls (length (history_at w j)) (points_of j (begin_item k point b ∷ [])) (length (history_at u j))
   begun-rise q b u h point at_point j =
       let m = h.meanwhile in
       let seen = h.seen in
@@ -108,12 +108,12 @@ module _ (others : List Accepted → Type 0) (later : Marks → Marks → Type 0
       let fits : IsAt point b =
       subst (λ (n : ℕ). IsAt n b) (sym here)
       (begins-at seen.bounds (store_seen seen) (length seen.history) seen.marks q b h.begin) in
-      subst (λ (y : List View). Rises (length (history_at w j)) (points_of j (i ∷ [])) (length (history_at y j)))
+      subst (λ (y : List View). NeverFalls (length (history_at w j)) (points_of j (i ∷ [])) (length (history_at y j)))
       (sym h.world)
-      (subst (λ (t : List ℕ). Rises (length (history_at w j)) t (length (history_at (slice_set w k x) j)))
+      (subst (λ (t : List ℕ). NeverFalls (length (history_at w j)) t (length (history_at (slice_set w k x) j)))
       (item-points k point b fits j)
       (put-rise w k m.view x (point ∷ []) m.is
-      (subst (λ (n : ℕ). Rises (length m.view.history) (n ∷ []) (length seen.history)) (sym here)
+      (subst (λ (n : ℕ). NeverFalls (length m.view.history) (n ∷ []) (length seen.history)) (sym here)
       (meanwhile-length seen m, le_refl (length seen.history))) j))
 
   pub watched-length : (u : List View) → Watches others later w k u → (j : ℕ)

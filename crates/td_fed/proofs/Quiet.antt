@@ -4,7 +4,7 @@ use Rattle.std.proofs.Common.{◌∙◌}
 use Rattle.td_cdr.specs.Marks.{Marks}
 use Rattle.td_fed.specs.Trails.{IsQuiet, own_at, own_marks_at}
 use Rattle.td_register.specs.declared.history.Accepted.{Accepted}
-use Rattle.td_trader.specs.Worlds.{Looks, Meanwhile, View, Watches, with_view}
+use Rattle.td_trader.specs.Worlds.{LooksAtTrader, Meanwhile, View, Watches, with_view}
 use Rattle.td_ops.specs.declared.call.Look.{Look}
 use Rattle.td_ops.specs.declared.outcome.Outcome.{Outcome}
 
@@ -37,5 +37,5 @@ module _ (others : List Accepted → Type 0) (later : Marks → Marks → Type 0
   pub quiet-watched : Watches others later w k u → IsQuiet w u
   quiet-watched h = seen-quiet h.seen h.meanwhile h.world
 
-  pub quiet-looked : (l : Look) (a : Outcome × ℕ) → Looks others later w k l a u → IsQuiet w u
+  pub quiet-looked : (l : Look) (a : Outcome × ℕ) → LooksAtTrader others later w k l a u → IsQuiet w u
   quiet-looked l a h = seen-quiet h.seen h.meanwhile h.world

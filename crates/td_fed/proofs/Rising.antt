@@ -1,22 +1,22 @@
 -- Numbers that never fall, and lists that are made item by item.
 use Rattle.std.proofs.Common.{◌≡◌, ℕ, ◌≤◌, List, [], ◌∷◌, ◌++◌, append_assoc, refl, sym, ap, ◌∙◌, arith}
 use Rattle.std.specs.List.{flat_map}
-use Rattle.td_fed.specs.Trails.{Rises}
+use Rattle.td_fed.specs.Trails.{NeverFalls}
 
-pub rises-most : (low : ℕ) (ns : List ℕ) (high : ℕ) → Rises low ns high → low ≤ high
+pub rises-most : (low : ℕ) (ns : List ℕ) (high : ℕ) → NeverFalls low ns high → low ≤ high
 rises-most low [] high h = h
 rises-most low (n ∷ ns) high h =
     let first = h.0 in
     let rest = rises-most n ns high h.1 in
     omega (arith, first, rest)
 
-rises-from : (less low : ℕ) (ns : List ℕ) (high : ℕ) → less ≤ low → Rises low ns high → Rises less ns high
+rises-from : (less low : ℕ) (ns : List ℕ) (high : ℕ) → less ≤ low → NeverFalls low ns high → NeverFalls less ns high
 rises-from less low [] high le h = omega (arith, le, h)
 rises-from less low (n ∷ ns) high le h = let first = h.0 in (omega (arith, le, first), h.1)
 
 -- one after the other
-pub rises-on : (low : ℕ) (ns : List ℕ) (middle : ℕ) (ms : List ℕ) (high : ℕ) → Rises low ns middle
-    → Rises middle ms high → Rises low (ns ++ ms) high
+pub rises-on : (low : ℕ) (ns : List ℕ) (middle : ℕ) (ms : List ℕ) (high : ℕ) → NeverFalls low ns middle
+    → NeverFalls middle ms high → NeverFalls low (ns ++ ms) high
 rises-on low [] middle ms high a b = rises-from low middle ms high a b
 rises-on low (n ∷ ns) middle ms high a b = (a.0, rises-on n ns middle ms high a.1 b)
 

@@ -2,11 +2,11 @@
 use Rattle.std.proofs.Common.{◌≡◌, ℕ, List, [], ◌∷◌, ◌++◌, length, append_assoc, append-nil, le_refl, refl, sym, ap}
 use Rattle.std.proofs.Common.{◌∙◌, subst}
 use Rattle.td_fed.proofs.Rising.{flat-append, rises-on}
-use Rattle.td_fed.specs.Trails.{IsShown, Rises, mark_of, marks_of, own_marks_at, point_of, points_of}
+use Rattle.td_fed.specs.Trails.{IsShown, NeverFalls, mark_of, marks_of, own_marks_at, point_of, points_of}
 use Rattle.td_trader.specs.Worlds.{View, history_at}
-use Rattle.td_walk.specs.Peering.{Exchange, Given}
-use Rattle.td_walk_laws.proofs.Walked.{given-append, shown-append}
-use Rattle.td_walk_laws.specs.Walks.{given_in, shown, shown_by}
+use Rattle.td_walk.specs.Peering.{Exchange, PeerAnswer}
+use Rattle.td_query_walk.proofs.Walked.{given-append, shown-append}
+use Rattle.td_query_walk.specs.Walks.{given_in, peer_answers, shown_by}
 use Rattle.td_walk.specs.declared.trace.TraceItem.{TraceItem}
 
 pub marks-append : (k : ℕ) (is js : List TraceItem) → marks_of k (is ++ js) ≡ marks_of k is ++ marks_of k js
@@ -37,14 +37,14 @@ shown-on w v u a b c x y z p q = record {
       ∙ (append_assoc (own_marks_at w k) (marks_of k p.items) (marks_of k q.items)
       ∙ ap (λ t. own_marks_at w k ++ t) (sym (marks-append k p.items q.items))));
   points = λ k.
-      subst (λ (t : List ℕ). Rises (length (history_at w k)) t (length (history_at u k)))
+      subst (λ (t : List ℕ). NeverFalls (length (history_at w k)) t (length (history_at u k)))
       (sym (flat-append (point_of k) p.items q.items))
       (rises-on (length (history_at w k)) (points_of k p.items) (length (history_at v k)) (points_of k q.items)
       (length (history_at u k)) (p.points k) (q.points k));
   made = p.made ++ q.made;
   calls_are = q.calls_are ∙ (ap (λ t. t ++ q.made) p.calls_are ∙ append_assoc a p.made q.made);
   asked = given-append p.made q.made
-      ∙ (ap (λ t. t ++ given_in q.made) p.asked ∙ (ap (λ t. shown p.items ++ t) q.asked
+      ∙ (ap (λ t. t ++ given_in q.made) p.asked ∙ (ap (λ t. peer_answers p.items ++ t) q.asked
       ∙ sym (shown-append p.items q.items)));
 }
 
@@ -90,9 +90,9 @@ shown-call w calls now e x z y i called kept noted unmarked unplaced seen = reco
   marks = λ k.
       sym (append-nil (own_marks_at w k)) ∙ ap (λ (t : List ℕ). own_marks_at w k ++ (t ++ [])) (sym (unmarked k));
   points = λ k.
-      subst (λ (t : List ℕ). Rises (length (history_at w k)) (t ++ []) (length (history_at w k))) (sym (unplaced k))
+      subst (λ (t : List ℕ). NeverFalls (length (history_at w k)) (t ++ []) (length (history_at w k))) (sym (unplaced k))
       (le_refl (length (history_at w k)));
   made = e ∷ [];
   calls_are = called;
-  asked = ap (λ (t : List Given). t ++ []) (sym seen);
+  asked = ap (λ (t : List PeerAnswer). t ++ []) (sym seen);
 }

@@ -1,35 +1,35 @@
 -- The innermost of the open visits: what it asks, what it takes, and what becomes of the others when it ends.
 use Rattle.std.proofs.Common.{◌≡◌, ℕ, ◌+◌, ◌^◌, ◌<◌, List, [], ◌∷◌, ◌++◌, length, Option, None, Some, Result, Ok, Err}
 use Rattle.std.proofs.Common.{IfOk, OnOk, refl, sym, ap, subst, ◌∙◌, length-append, arith}
-use Rattle.td_cdr.specs.declared.memory.Memory.{Memory as Wanting}
-use Rattle.td_codes.specs.declared.reference.Ior.{Ior}
+use Rattle.td_cdr.specs.declared.memory.Memory.{Memory as OutOfMemory}
+use Rattle.td_typecode.specs.declared.reference.Ior.{Ior}
 use Rattle.td_fed.specs.Entering.{IsAsked, IsEnd}
-use Rattle.td_fed.specs.Entering.{Asks as Comes, answered as has-answer, begun as has-begun}
-use Rattle.td_fed.specs.Turning.{Asks, Closes, GoesOn, IsTurn, Takes, answered, begun, ended}
-use Rattle.td_fed.specs.declared.asking.Asking.{Asking}
-use Rattle.td_fed.specs.declared.asking.Asking.TheVariants as asking
+use Rattle.td_fed.specs.Entering.{AsksQuestion as Comes, answered as has-answer, begun as has-begun}
+use Rattle.td_fed.specs.Turning.{HasQuestion, Closes, StepsWalk, IsWalkTurn, TakesAnswer, answered, begun, ended}
+use Rattle.td_fed.specs.declared.outside.Asking.{Asking}
+use Rattle.td_fed.specs.declared.outside.Asking.TheVariants as asking
 use Rattle.td_ops.specs.declared.call.Query.{Query}
-use Rattle.td_visit.specs.Standing.{Standing as Frame}
+use Rattle.td_visit.specs.Standing.{FrameState as Frame}
 use Rattle.td_walk.specs.declared.answer.Next.{Next}
 use Rattle.td_walk.specs.declared.answer.StepAnswer.{StepAnswer}
 use Rattle.td_walk.specs.declared.trace.TraceItem.{TraceItem}
 use Rattle.td_walk.specs.declared.trace.TraceItem.TheVariants as item
 use Rattle.td_walk.specs.declared.trace.Visit.{Visit}
-use Rattle.td_walk_laws.specs.Walks.{Course, Start}
+use Rattle.td_query_walk.specs.Walks.{WalkState, Start}
 
 -- there is one, where a question is asked
-pub one-asks : (stack : List Frame) (q : Next) → Asks stack q → 0 < length stack
+pub one-asks : (stack : List Frame) (q : Next) → HasQuestion stack q → 0 < length stack
 one-asks stack q a =
     let n = ap (λ (fs : List Frame). length fs) a.is ∙ length-append a.waiting (a.top ∷ []) in
     omega (arith, n)
 
 module _ {World : Type 0} (Begins : World → (trader : ℕ) → Query → Start → World → Type 0)
-    (inside : World → (target : Ior) → Option ℕ) (s : Course World) where
+    (inside : World → (target : Ior) → Option ℕ) (s : WalkState World) where
   -- ---- the innermost visit ends
 
-  last-so : (u : Course World) (stack after : List Frame) (before now : List TraceItem) (v : Visit)
+  last-so : (u : WalkState World) (stack after : List Frame) (before now : List TraceItem) (v : Visit)
       → Closes s stack (Some v) after u → now ≡ before ++ item.Leave ∷ []
-      → IsTurn Begins inside s stack (Some v) after before now u
+      → IsWalkTurn Begins inside s stack (Some v) after before now u
   last-so u stack after before now v c noted = record {
     items = item.Leave ∷ [];
     notes = noted;
@@ -41,9 +41,9 @@ module _ {World : Type 0} (Begins : World → (trader : ℕ) → Query → Start
     };
   }
 
-  pub turn-closes : (u : Course World) (stack after : List Frame) (before now : List TraceItem)
-      (r : Result (Option Visit) Wanting) → IfOk r (λ v. Closes s stack v after u)
-      → OnOk r (now ≡ before ++ item.Leave ∷ []) → IfOk r (λ v. IsTurn Begins inside s stack v after before now u)
+  pub turn-closes : (u : WalkState World) (stack after : List Frame) (before now : List TraceItem)
+      (r : Result (Option Visit) OutOfMemory) → IfOk r (λ v. Closes s stack v after u)
+      → OnOk r (now ≡ before ++ item.Leave ∷ []) → IfOk r (λ v. IsWalkTurn Begins inside s stack v after before now u)
   turn-closes u stack after before now (Ok (Some v)) c noted = last-so u stack after before now v c noted
   turn-closes u stack after before now (Ok None) c noted = record {
     items = item.Leave ∷ [];
@@ -54,20 +54,20 @@ module _ {World : Type 0} (Begins : World → (trader : ℕ) → Query → Start
 
   -- ---- its question is asked
 
-  module _ (stack : List Frame) (question : Next) (asks : Asks stack question) where
-    abbrev TurnOf : Asking → List TraceItem → Course World → Type 0
-    TurnOf (asking.Answered r) t u = (after : List Frame) → Takes stack r after → GoesOn Begins inside s stack after t u
+  module _ (stack : List Frame) (question : Next) (asks : HasQuestion stack question) where
+    abbrev TurnOf : Asking → List TraceItem → WalkState World → Type 0
+    TurnOf (asking.Answered r) t u = (after : List Frame) → TakesAnswer stack r after → StepsWalk Begins inside s stack after t u
     TurnOf (asking.Open f) t u =
-        f.local.attributes.max_hop_count < 2 ^ 32 → GoesOn Begins inside s stack (stack ++ f ∷ []) t u
+        f.local.attributes.max_hop_count < 2 ^ 32 → StepsWalk Begins inside s stack (stack ++ f ∷ []) t u
 
-    turn-of : (a : Asking) (t : List TraceItem) (u : Course World) → Comes Begins inside s question a t u → TurnOf a t u
+    turn-of : (a : Asking) (t : List TraceItem) (u : WalkState World) → Comes Begins inside s question a t u → TurnOf a t u
     turn-of a t u (has-answer step) = λ after takes. answered question _ asks step takes
-    turn-of a t u (has-begun is inner b o) = λ few. begun _ _ _ _ _ _ _ (subst (Asks stack) is asks) inner b o few
+    turn-of a t u (has-begun is inner b o) = λ few. begun _ _ _ _ _ _ _ (subst (HasQuestion stack) is asks) inner b o few
 
-    pub turn-answered : {X : Type 0} (r : StepAnswer) (u : Course World) (before now : List TraceItem)
-        (after : List Frame) (res : Result X Wanting)
+    pub turn-answered : {X : Type 0} (r : StepAnswer) (u : WalkState World) (before now : List TraceItem)
+        (after : List Frame) (res : Result X OutOfMemory)
         → IsAsked Begins inside s question (asking.Answered r) before now u
-        → OnOk res (Takes stack r after) → OnOk res (IsTurn Begins inside s stack None after before now u)
+        → OnOk res (TakesAnswer stack r after) → OnOk res (IsWalkTurn Begins inside s stack None after before now u)
     turn-answered r u before now after (Ok x) a takes = record {
       items = a.items;
       notes = a.notes;
@@ -75,19 +75,19 @@ module _ {World : Type 0} (Begins : World → (trader : ℕ) → Query → Start
     }
     turn-answered r u before now after (Err m) a takes = tt
 
-    open-so : (f : Frame) (u : Course World) (before now : List TraceItem) (after : List Frame)
+    open-so : (f : Frame) (u : WalkState World) (before now : List TraceItem) (after : List Frame)
         → IsAsked Begins inside s question (asking.Open f) before now u → f.local.attributes.max_hop_count < 2 ^ 32
-        → after ≡ stack ++ f ∷ [] → IsTurn Begins inside s stack None after before now u
+        → after ≡ stack ++ f ∷ [] → IsWalkTurn Begins inside s stack None after before now u
     open-so f u before now after a few put = record {
       items = a.items;
       notes = a.notes;
-      turns = subst (λ (fs : List Frame). GoesOn Begins inside s stack fs a.items u) (sym put)
+      turns = subst (λ (fs : List Frame). StepsWalk Begins inside s stack fs a.items u) (sym put)
           (turn-of (asking.Open f) a.items u a.asks few);
     }
 
-    pub turn-opened : {X : Type 0} (f : Frame) (u : Course World) (before now : List TraceItem) (after : List Frame)
-        (res : Result X Wanting) → IsAsked Begins inside s question (asking.Open f) before now u
+    pub turn-opened : {X : Type 0} (f : Frame) (u : WalkState World) (before now : List TraceItem) (after : List Frame)
+        (res : Result X OutOfMemory) → IsAsked Begins inside s question (asking.Open f) before now u
         → f.local.attributes.max_hop_count < 2 ^ 32 → OnOk res (after ≡ stack ++ f ∷ [])
-        → OnOk res (IsTurn Begins inside s stack None after before now u)
+        → OnOk res (IsWalkTurn Begins inside s stack None after before now u)
     turn-opened f u before now after (Ok x) a few put = open-so f u before now after a few put
     turn-opened f u before now after (Err m) a few put = tt

@@ -1,13 +1,13 @@
 -- What the names of links lead to, one after the other (OMG's Trading Object Service, interface Register, resolve).
 use Rattle.std.specs.Prelude.{◌≡◌, ℕ, nat_le, Bool, true, false, ◌&&◌, List, [], ◌∷◌, ◌++◌, length, Option, None, Some}
 use Rattle.std.specs.Prelude.{Result, Ok, Err, ◌<◌, ◌⊎◌}
-use Rattle.td_cdr.specs.declared.memory.Memory.{Memory as Wanting}
+use Rattle.td_cdr.specs.declared.memory.Memory.{Memory as OutOfMemory}
 use Rattle.std.specs.List.{list_all}
 use Rattle.td_cdr.specs.Marks.{Marks}
 use Rattle.td_cdr.specs.Names.{word_name}
-use Rattle.td_codes.specs.declared.reference.Ior.{Ior}
+use Rattle.td_typecode.specs.declared.reference.Ior.{Ior}
 use Rattle.td_exceptions.specs.declared.exception.UserException.TheVariants.{IllegalTraderName, UnknownTraderName}
-use Rattle.td_places.specs.Targets.{register_inside}
+use Rattle.td_targets.specs.Targets.{register_inside}
 use Rattle.td_fed.specs.declared.resolving.Lead.{Lead}
 use Rattle.td_fed.specs.declared.resolving.Lead.TheVariants as lead
 use Rattle.td_fed.specs.declared.resolving.NameAnswer.{NameAnswer}
@@ -49,7 +49,7 @@ pub record LooksUp (others : List Accepted → Type 0) (later : Marks → Marks 
     (w : List View) (k : ℕ) (name : List ℕ) (register : Option Ior) (u : List View) : Type 0 where
   pub seen : View
   pub meanwhile : Meanwhile others later w k seen
-  pub told : register ≡ register_of_link (link_of (store_seen seen).links name)
+  pub content : register ≡ register_of_link (link_of (store_seen seen).links name)
   pub world : u ≡ with_view w k seen
 
 -- ---- a register outside
@@ -62,7 +62,7 @@ pub data IsAskedFor (point : ℕ) (whole rest : List (List ℕ)) (register : Ior
   given : (r : Ior) → IsAskedFor point whole rest register calls
       (record { point = point; asked = Some (Ok r); outcome = Done (reply.Reference r) })
       (calls ++ record { call = Resolving register rest; gave = Referred r } ∷ [])
-  wanting : (r : Ior) → IsAskedFor point whole rest register calls
+  no_memory_outcome : (r : Ior) → IsAskedFor point whole rest register calls
       (record { point = point; asked = Some (Ok r); outcome = system NoMemory })
       (calls ++ record { call = Resolving register rest; gave = Referred r } ∷ [])
   ungiven : (f : PeerFault) → is_memory f ≡ false → IsAskedFor point whole rest register calls
@@ -72,13 +72,14 @@ pub data IsAskedFor (point : ℕ) (whole rest : List (List ℕ)) (register : Ior
 -- ---- names that are followed
 
 -- From trader k on. The point of an answer is that at which its first name was looked up.
-pub data Follows (others : List Accepted → Type 0) (later : Marks → Marks → Type 0) (home : Address)
+pub data ResolvesFrom (others : List Accepted → Type 0) (later : Marks → Marks → Type 0)
+    (home : Address)
     (whole : List (List ℕ)) (calls : List Exchange) : List View → ℕ → List (List ℕ) → NameAnswer
     → List View → List Exchange → Type 0 where
   -- no link has the name
   unknown : {w : List View} {k : ℕ} {name : List ℕ} {rest : List (List ℕ)} {u : List View}
       → LooksUp others later w k name None u
-      → Follows others later home whole calls w k (name ∷ rest)
+      → ResolvesFrom others later home whole calls w k (name ∷ rest)
       (record {
         point = length (history_at u k);
         asked = None;
@@ -87,7 +88,7 @@ pub data Follows (others : List Accepted → Type 0) (later : Marks → Marks �
   -- the last name gives its link's register
   named : {w : List View} {k : ℕ} {name : List ℕ} {u : List View} (register : Ior)
       → LooksUp others later w k name (Some register) u
-      → Follows others later home whole calls w k (name ∷ [])
+      → ResolvesFrom others later home whole calls w k (name ∷ [])
       (record {
         point = length (history_at u k);
         asked = None;
@@ -98,8 +99,8 @@ pub data Follows (others : List Accepted → Type 0) (later : Marks → Marks �
       {a : NameAnswer}
       {v : List View} {now : List Exchange} (register : Ior) (n : ℕ)
       → LooksUp others later w k name (Some register) u → register_inside home u register ≡ Some n
-      → Follows others later home whole calls u n rest a v now
-      → Follows others later home whole calls w k (name ∷ rest)
+      → ResolvesFrom others later home whole calls u n rest a v now
+      → ResolvesFrom others later home whole calls w k (name ∷ rest)
       (record { point = length (history_at u k); asked = a.asked; outcome = a.outcome }) v now
   -- any other register is asked for them
   outside : {w : List View} {k : ℕ} {name next : List ℕ} {rest : List (List ℕ)} {u : List View}
@@ -107,7 +108,7 @@ pub data Follows (others : List Accepted → Type 0) (later : Marks → Marks �
       {now : List Exchange} (register : Ior)
       → LooksUp others later w k name (Some register) u → register_inside home u register ≡ None
       → IsAskedFor (length (history_at u k)) whole (next ∷ rest) register calls a now
-      → Follows others later home whole calls w k (name ∷ next ∷ rest) a u now
+      → ResolvesFrom others later home whole calls w k (name ∷ next ∷ rest) a u now
 
 -- What a name comes to at trader k, and the calls of peers that were made.
 pub data Resolves (others : List Accepted → Type 0) (later : Marks → Marks → Type 0)
@@ -121,7 +122,7 @@ pub data Resolves (others : List Accepted → Type 0) (later : Marks → Marks �
         outcome = User (IllegalTraderName name);
       }) w calls
   followed : {a : NameAnswer} {u : List View} {now : List Exchange} → is_path name ≡ true
-      → Follows others later home name calls w k name a u now
+      → ResolvesFrom others later home name calls w k name a u now
       → Resolves others later home w calls k name a u now
 
 -- ---- one name at a time
@@ -131,9 +132,9 @@ abbrev pub link_register : Reply → Option Ior
 link_register (reply.Link i) = Some i.target_reg
 link_register other = None
 
-abbrev pub told_register : Outcome → Option Ior
-told_register (Done told) = link_register told
-told_register other = None
+abbrev pub register_in_outcome : Outcome → Option Ior
+register_in_outcome (Done content) = link_register content
+register_in_outcome other = None
 
 -- a link was found whose register is one of the group, at which the others are looked up
 pub record LeadsInside (others : List Accepted → Type 0) (later : Marks → Marks → Type 0)
@@ -145,12 +146,13 @@ pub record LeadsInside (others : List Accepted → Type 0) (later : Marks → Ma
   pub point_is : point ≡ length (history_at u k)
 
 -- where a name leads, with those that are left: to an answer, or to a register of the group
-abbrev pub Leads : (others : List Accepted → Type 0) → (later : Marks → Marks → Type 0) → Address
+abbrev pub PathLeads : (others : List Accepted → Type 0) → (later : Marks → Marks → Type 0)
+    → Address
     → (whole : List (List ℕ)) → (calls : List Exchange) → List View → ℕ → (name : List ℕ)
     → (rest : List (List ℕ)) → Lead → List View → (now : List Exchange) → Type 0
-Leads others later home whole calls w k name rest (lead.Ended a) u now =
-    Follows others later home whole calls w k (name ∷ rest) a u now
-Leads others later home whole calls w k name rest (lead.Inside point n) u now =
+PathLeads others later home whole calls w k name rest (lead.Ended a) u now =
+    ResolvesFrom others later home whole calls w k (name ∷ rest) a u now
+PathLeads others later home whole calls w k name rest (lead.Inside point n) u now =
     LeadsInside others later home w k name point n u × (0 < length rest) × (now ≡ calls)
 
 -- ---- what a register outside gave
@@ -159,8 +161,8 @@ abbrev pub with_outcome : (point : ℕ) → Ior → Outcome → NameAnswer
 with_outcome point r o = record { point = point; asked = Some (Ok r); outcome = o }
 
 -- a reference, which is the result where there is memory for it
-abbrev pub IsGiven : (point : ℕ) → Ior → NameAnswer → Type 0
-IsGiven point r a =
+abbrev pub IsReferenceGiven : (point : ℕ) → Ior → NameAnswer → Type 0
+IsReferenceGiven point r a =
     (a ≡ with_outcome point r (Done (reply.Reference r)))
     ⊎ (a ≡ with_outcome point r (system NoMemory))
 
@@ -171,8 +173,9 @@ unfound point f whole = record {
   outcome = User (UnknownTraderName whole);
 }
 
--- none, or it wanted memory
-abbrev pub IsUngiven : (point : ℕ) → PeerFault → (whole : List (List ℕ)) → Result NameAnswer Wanting
+-- none, or it ran out of memory
+abbrev pub IsUngiven : (point : ℕ) → PeerFault → (whole : List (List ℕ))
+    → Result NameAnswer OutOfMemory
     → Type 0
 IsUngiven point f whole (Ok a) = (is_memory f ≡ false) × (a ≡ unfound point f whole)
 IsUngiven point f whole (Err e) = is_memory f ≡ true

@@ -1,4 +1,4 @@
--- What a trace shows at any moment, also where a visit ended for want of memory: the marks that were made, the points
+-- What a trace shows at any moment, also where a visit ended when out of memory: the marks that were made, the points
 -- of the traders and what peers gave; and what became of the traders and of the random words meanwhile.
 use Rattle.std.specs.Prelude.{◌≡◌, ℕ, ◌+◌, ◌≤◌, nat_eq, cond, List, [], ◌∷◌, ◌++◌, length, Option, None, Some}
 use Rattle.std.specs.Prelude.{slice_get}
@@ -6,10 +6,10 @@ use Rattle.std.specs.List.{flat_map}
 use Rattle.td_cdr.specs.Marks.{Marks}
 use Rattle.td_ops.specs.declared.call.Query.{Query}
 use Rattle.td_register.specs.declared.history.Accepted.{Accepted}
-use Rattle.td_trader.specs.Worlds.{Begun, View, Watches, history_at}
+use Rattle.td_trader.specs.Worlds.{BeginsQuery, View, Watches, history_at}
 use Rattle.td_trader.specs.declared.begin.Begin.{Begin}
 use Rattle.td_walk.specs.Peering.{Exchange}
-use Rattle.td_walk_laws.specs.Walks.{Asked}
+use Rattle.td_query_walk.specs.Walks.{Asked}
 use Rattle.td_walk.specs.declared.trace.TraceItem.{TraceItem}
 use Rattle.td_walk.specs.declared.trace.TraceItem.TheVariants as item
 
@@ -42,9 +42,9 @@ marks_of k [] = []
 marks_of k (i ∷ is) = mark_of k i ++ marks_of k is
 
 -- from the low number on to the high one the numbers never fall
-abbrev pub Rises : (low : ℕ) → List ℕ → (high : ℕ) → Type 0
-Rises low [] high = low ≤ high
-Rises low (n ∷ ns) high = (low ≤ n) × Rises n ns high
+abbrev pub NeverFalls : (low : ℕ) → List ℕ → (high : ℕ) → Type 0
+NeverFalls low [] high = low ≤ high
+NeverFalls low (n ∷ ns) high = (low ≤ n) × NeverFalls n ns high
 
 -- these of this trader, and none of any other
 abbrev pub only_of : (trader : ℕ) → List ℕ → (k : ℕ) → List ℕ
@@ -69,7 +69,7 @@ pub record IsShown (w : List View) (calls : List Exchange) (before after : List 
   pub items : List TraceItem
   pub notes : after ≡ before ++ items
   pub marks : (k : ℕ) → own_marks_at u k ≡ own_marks_at w k ++ marks_of k items
-  pub points : (k : ℕ) → Rises (length (history_at w k)) (points_of k items)
+  pub points : (k : ℕ) → NeverFalls (length (history_at w k)) (points_of k items)
       (length (history_at u k))
   pub made : List Exchange
   pub calls_are : now ≡ calls ++ made
@@ -82,7 +82,7 @@ pub record IsShown (w : List View) (calls : List Exchange) (before after : List 
 pub data Goes (others : List Accepted → Type 0) (later : Marks → Marks → Type 0) : List View
     → List View → Type 0 where
   stays : {w : List View} → Goes others later w w
-  began : {w u v : List View} (k : ℕ) (q : Query) (b : Begin) → Begun others later w k q b u
+  began : {w u v : List View} (k : ℕ) (q : Query) (b : Begin) → BeginsQuery others later w k q b u
       → Goes others later u v → Goes others later w v
   watched : {w u v : List View} (k : ℕ) → Watches others later w k u → Goes others later u v
       → Goes others later w v

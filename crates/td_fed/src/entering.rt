@@ -3,11 +3,11 @@
 ghost use Rattle.std.specs.Prelude.{◌≡◌, ◌<◌, [], ◌∷◌, ◌++◌, length, vec_len, vec_capacity, IfOk, OnErr};
 ghost use Rattle.td_fed.specs.Entering.{IsEntered, IsEnteredSoFar, begin_item, entry_of};
 ghost use Rattle.td_fed.specs.Trails.{Goes, IsShown};
-ghost use Rattle.td_fed.specs.Visiting.{Begins};
-ghost use Rattle.td_walk_laws.specs.Walks.{nothing};
+ghost use Rattle.td_fed.specs.Visiting.{BeginsVisit};
+ghost use Rattle.td_query_walk.specs.Walks.{no_offers};
 ghost use Rattle.td_walk.specs.declared.trace.TraceItem.TheVariants as item;
-ghost use Rattle.td_fed.specs.declared.entering.Entry.TheVariants as entry;
-ghost use Rattle.td_fed.specs.Entering.{opened};
+ghost use Rattle.td_fed.specs.declared.entering.VisitStart.TheVariants as entry;
+ghost use Rattle.td_fed.specs.Entering.{new_frame};
 ghost use Rattle.td_trader.specs.Worlds.{Watches};
 
 use std::alloc::Global;
@@ -20,7 +20,7 @@ use td_walk::{SubAnswer, TraceItem, Visit};
 
 /// A visit that began.
 #[derive(Drop)]
-pub(crate) enum Entry {
+pub(crate) enum VisitStart {
     /// It asks nothing, and comes to this.
     Ended(Visit),
     /// It asks its questions.
@@ -28,8 +28,8 @@ pub(crate) enum Entry {
 }
 
 /// No offers and no limits.
-pub(crate) fn nothing(alloc: Global) -> SubAnswer
-    ensures { result ≡ nothing }
+pub(crate) fn no_offers(alloc: Global) -> SubAnswer
+    ensures { result ≡ no_offers }
 {
     SubAnswer {
         offers: List::new(alloc),
@@ -42,20 +42,20 @@ pub(crate) fn nothing(alloc: Global) -> SubAnswer
 ///
 /// # Errors
 ///
-/// `Memory` for want of memory alone.
+/// `Memory` only when out of memory.
 pub(crate) fn enter<T: Traders>(
     alloc: Global,
     traders: &mut T,
     trader: usize,
     q: &Shared<Query>,
     notes: &mut Vec<TraceItem>,
-) -> Result<Entry, Memory>
+) -> Result<VisitStart, Memory>
     requires { trader < length (T.world traders.old) }
     ensures same { T.same traders.old traders.new }
-    ensures entered { IfOk result (λ e. IsEntered (Begins T.others T.later)
+    ensures entered { IfOk result (λ e. IsEntered (BeginsVisit T.others T.later)
         (T.world traders.old) trader q.now e notes.old.items notes.new.items
         (T.world traders.new)) }
-    ensures so_far { OnErr result (IsEnteredSoFar (Begins T.others T.later)
+    ensures so_far { OnErr result (IsEnteredSoFar (BeginsVisit T.others T.later)
         (Watches T.others T.later)
         (T.world traders.old) trader q.now notes.old.items notes.new.items (T.world traders.new)) }
     ensures shown { IsShown (T.world traders.old) [] notes.old.items notes.new.items
@@ -75,7 +75,7 @@ fn note_begin(
     point: u64,
     begin: Begin,
     notes: &mut Vec<TraceItem>,
-) -> Result<Entry, Memory>
+) -> Result<VisitStart, Memory>
     requires { vec_len notes.old < vec_capacity notes.old }
     ensures noted { notes.new.items ≡ notes.old.items ++ begin_item trader point begin ∷ [] }
     ensures entry { IfOk result (λ e. e ≡ entry_of begin) }
@@ -83,7 +83,7 @@ fn note_begin(
     match begin {
         Begin::Refused(outcome) => {
             notes.push_reserved(TraceItem::Refused { trader, point });
-            Ok(Entry::Ended(Visit::Refused(outcome)))
+            Ok(VisitStart::Ended(Visit::Refused(outcome)))
         }
         Begin::Repeat(mark) => {
             notes.push_reserved(TraceItem::Repeat {
@@ -91,8 +91,8 @@ fn note_begin(
                 point,
                 mark,
             });
-            Ok(Entry::Ended(Visit::Answered {
-                answer: nothing(alloc),
+            Ok(VisitStart::Ended(Visit::Answered {
+                answer: no_offers(alloc),
                 max_list: 0,
             }))
         }
@@ -114,8 +114,8 @@ fn note_begin(
     }
 }
 
-fn open(alloc: Global, local: Boxed<Local>) -> Result<Entry, Memory>
-    ensures { IfOk result (λ e. e ≡ entry.Open (opened local)) }
+fn open(alloc: Global, local: Boxed<Local>) -> Result<VisitStart, Memory>
+    ensures { IfOk result (λ e. e ≡ entry.Open (new_frame local)) }
 {
-    Ok(Entry::Open(Frame::new(alloc, local)?))
+    Ok(VisitStart::Open(Frame::new(alloc, local)?))
 }

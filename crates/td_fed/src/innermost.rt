@@ -4,7 +4,7 @@ ghost use Rattle.std.specs.Prelude.{◌≡◌, ◌^◌, ◌<◌, ℕ, List, [], 
 ghost use Rattle.std.specs.Prelude.{IfOk, OnOk, OnErr};
 ghost use Rattle.td_fed.specs.Entering.{IsEnd};
 ghost use Rattle.td_fed.specs.Trails.{DrawsOn, IsShown};
-ghost use Rattle.td_fed.specs.Turning.{Asks, Closes, ClosesSoFar, Returns, Takes};
+ghost use Rattle.td_fed.specs.Turning.{HasQuestion, Closes, ClosesSoFar, Returns, TakesAnswer};
 ghost use Rattle.td_fed.specs.Visiting.{course};
 ghost use Rattle.td_trader.specs.Worlds.{View};
 ghost use Rattle.td_walk.specs.Peering.{Exchange};
@@ -12,7 +12,7 @@ ghost use Rattle.td_walk.specs.Visits.{next_of};
 ghost use Rattle.td_walk.specs.declared.answer.Next.TheVariants.{Done};
 ghost use Rattle.td_walk.specs.declared.trace.TraceItem.TheVariants as item;
 
-use crate::asking::answer_in;
+use crate::outside::answer_in;
 use std::alloc::Global;
 use td_cdr::Memory;
 use td_out::Words;
@@ -23,7 +23,7 @@ use td_walk::{Next, StepAnswer, TraceItem, Visit};
 pub(crate) fn next_of_innermost(alloc: Global, stack: &mut Vec<Frame>) -> Result<Next, Memory>
     requires { 0 < length stack.old.items }
     ensures kept { stack.new.items ≡ stack.old.items }
-    ensures asks { IfOk result (λ question. Asks stack.old.items question) }
+    ensures asks { IfOk result (λ question. HasQuestion stack.old.items question) }
 {
     match stack.pop() {
         None => unreachable!(),
@@ -54,7 +54,7 @@ fn take(visit: &mut Frame, answer: StepAnswer) -> Result<(), Memory>
 /// Hands the innermost visit the answer to its question.
 pub(crate) fn answer_innermost(stack: &mut Vec<Frame>, answer: StepAnswer) -> Result<(), Memory>
     requires { 0 < length stack.old.items }
-    ensures { OnOk result (Takes stack.old.items answer stack.new.items) }
+    ensures { OnOk result (TakesAnswer stack.old.items answer stack.new.items) }
 {
     match stack.pop() {
         None => unreachable!(),
@@ -86,7 +86,7 @@ pub(crate) fn end_innermost<W: Words>(
     notes: &mut Vec<TraceItem>,
     stack: &mut Vec<Frame>,
 ) -> Result<Option<Visit>, Memory>
-    requires { Asks stack.old.items Done }
+    requires { HasQuestion stack.old.items Done }
     ensures same { W.same words.old words.new }
     ensures closes { (w : List View) (calls : List Exchange) → IfOk result (λ v.
         Closes (course w (W.word words.old) calls) stack.old.items v stack.new.items

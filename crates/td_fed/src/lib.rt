@@ -2,9 +2,9 @@
 //! to (OMG's Trading Object Service, interfaces Lookup, query, and Register, resolve; "Link Follow Behavior").
 #![tactic(auto)]
 
-mod asking;
 mod entering;
 mod innermost;
+mod outside;
 mod resolving;
 mod visiting;
 

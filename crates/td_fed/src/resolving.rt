@@ -3,21 +3,22 @@
 ghost use Rattle.std.specs.Prelude.{◌≡◌, ◌<◌, ℕ, List as Row, ◌∷◌, true, length, None, Some, IfOk, OnErr};
 ghost use Rattle.std.specs.List.{list_all};
 ghost use Rattle.td_cdr.specs.Names.{word_name};
-ghost use Rattle.td_fed.specs.Resolving.{Follows, IsAskedFor, IsGiven, IsUngiven, Leads, LooksUp, Resolves};
-ghost use Rattle.td_fed.specs.Resolving.{RoseIfUngiven, is_path, link_register, told_register, with_outcome};
+ghost use Rattle.td_fed.specs.Resolving.{ResolvesFrom, IsAskedFor, IsReferenceGiven, IsUngiven, PathLeads, LooksUp};
+ghost use Rattle.td_fed.specs.Resolving.{Resolves};
+ghost use Rattle.td_fed.specs.Resolving.{RoseIfUngiven, is_path, link_register, register_in_outcome, with_outcome};
 ghost use Rattle.td_fed.specs.Trails.{Goes, IsQuiet};
 ghost use Rattle.td_exceptions.specs.declared.exception.UserException.TheVariants as user;
 ghost use Rattle.td_ops.specs.declared.outcome.Outcome.TheVariants as outcome;
 ghost use Rattle.td_ops.specs.declared.outcome.Reply.TheVariants as reply;
 ghost use Rattle.td_trader.specs.Worlds.{View, history_at};
-ghost use Rattle.td_walk_laws.specs.Faults.{CountsFaults};
+ghost use Rattle.td_query_walk.specs.Faults.{CountsFaults};
 
 use std::alloc::Global;
 use td_cdr::{List, Memory, Text, Twin, is_word_name};
 use td_exceptions::UserException;
 use td_ops::{Look, Outcome, Reply};
-use td_places::register_inside;
 use td_policy::MOST_NAMES;
+use td_targets::register_inside;
 use td_trader::Traders;
 use td_value::Ior;
 use td_walk::{Address, PeerFault, Peers};
@@ -49,7 +50,7 @@ pub(crate) enum Lead {
 ///
 /// # Errors
 ///
-/// `Memory` for want of memory alone. No peer has given an answer then: where memory is refused after one has, the
+/// `Memory` only when out of memory. No peer has given an answer then: where memory is refused after one has, the
 /// outcome is NO_MEMORY.
 #[tactic(auto, using(crate::proofs::Counted::nothing_counted))]
 pub fn resolve<T: Traders, P: Peers>(
@@ -146,7 +147,7 @@ fn follow<T: Traders, P: Peers>(
     ensures same { T.same traders.old traders.new }
     ensures same_peers { P.same peers.old peers.new }
     ensures follows { IfOk result
-        (λ a. Follows T.others T.later home.now whole.now (P.calls peers.old)
+        (λ a. ResolvesFrom T.others T.later home.now whole.now (P.calls peers.old)
         (T.world traders.old) trader names.now a (T.world traders.new) (P.calls peers.new)) }
     ensures unasked { OnErr result (P.calls peers.new ≡ P.calls peers.old) }
     ensures quiet { IsQuiet (T.world traders.old) (T.world traders.new) }
@@ -185,7 +186,8 @@ fn lead_from<T: Traders, P: Peers>(
     requires word { word_name name.now ≡ true }
     ensures same { T.same traders.old traders.new }
     ensures same_peers { P.same peers.old peers.new }
-    ensures leads { IfOk result (λ r. Leads T.others T.later home.now whole.now (P.calls peers.old)
+    ensures leads { IfOk result (λ r. PathLeads T.others T.later home.now whole.now
+        (P.calls peers.old)
         (T.world traders.old) trader name.now rest.now r (T.world traders.new)
         (P.calls peers.new)) }
     ensures unasked { OnErr result (P.calls peers.new ≡ P.calls peers.old) }
@@ -221,7 +223,7 @@ fn lead_over<T: Traders, P: Peers>(
     ensures leads { (w : Row View) (k : ℕ) (name : Row ℕ) →
         LooksUp T.others T.later w k name (Some register) (T.world traders.now) →
         point ≡ length (history_at (T.world traders.now) k) →
-        IfOk result (λ r. Leads T.others T.later home.now whole.now (P.calls peers.old)
+        IfOk result (λ r. PathLeads T.others T.later home.now whole.now (P.calls peers.old)
         w k name rest.now r (T.world traders.now) (P.calls peers.new)) }
     ensures unasked { OnErr result (P.calls peers.new ≡ P.calls peers.old) }
     ensures faults { CountsFaults (P.calls peers.old) (P.calls peers.new) (P.faults peers.old)
@@ -262,12 +264,12 @@ fn look_up<T: Traders>(
     let name = name.copy(alloc)?;
     let look = Look::DescribeLink { name };
     let (outcome, _most) = traders.look(trader, &look)?;
-    Ok(told_register(outcome))
+    Ok(register_in_outcome(outcome))
 }
 
 /// The register that a look at a link told.
-fn told_register(outcome: Outcome) -> Option<Ior>
-    ensures { result ≡ told_register outcome }
+fn register_in_outcome(outcome: Outcome) -> Option<Ior>
+    ensures { result ≡ register_in_outcome outcome }
 {
     match outcome {
         Outcome::Done(reply) => link_register(reply),
@@ -279,10 +281,10 @@ fn told_register(outcome: Outcome) -> Option<Ior>
     }
 }
 
-fn link_register(told: Reply) -> Option<Ior>
-    ensures { result ≡ link_register told }
+fn link_register(content: Reply) -> Option<Ior>
+    ensures { result ≡ link_register content }
 {
-    match told {
+    match content {
         Reply::Link(link) => Some(link.target_reg),
         other => {
             drop(other);
@@ -330,7 +332,7 @@ fn copies(alloc: Global, names: &[Text]) -> Result<List<Text>, Memory>
 
 /// The answer with a reference that a register gave.
 fn given(alloc: Global, point: u64, reference: Ior) -> NameAnswer
-    ensures { IsGiven point reference result }
+    ensures { IsReferenceGiven point reference result }
 {
     match reference.copy(alloc) {
         Ok(copy) => with_outcome(point, reference, Outcome::Done(Reply::Reference(copy))),

@@ -3,21 +3,21 @@
 ghost use Rattle.std.specs.Prelude.{◌≡◌, ◌<◌, ℕ, List, [], ◌∷◌, ◌++◌, length, None, IfOk, OnOk};
 ghost use Rattle.std.specs.Prelude.{OnErr};
 ghost use Rattle.td_fed.specs.Entering.{IsEntered};
-ghost use Rattle.td_places.specs.Targets.{inside_group};
+ghost use Rattle.td_targets.specs.Targets.{inside_group};
 ghost use Rattle.td_fed.specs.Trails.{DrawsOn, Goes, IsShown};
-ghost use Rattle.td_fed.specs.Turning.{Asks, IsTurn, IsTurnSoFar};
-ghost use Rattle.td_fed.specs.Visiting.{Begins, Visited, VisitedSoFar, course};
-ghost use Rattle.td_fed.specs.declared.entering.Entry.TheVariants as entry;
+ghost use Rattle.td_fed.specs.Turning.{HasQuestion, IsWalkTurn, IsTurnSoFar};
+ghost use Rattle.td_fed.specs.Visiting.{BeginsVisit, WalksTo, VisitedSoFar, course};
+ghost use Rattle.td_fed.specs.declared.entering.VisitStart.TheVariants as entry;
 ghost use Rattle.td_ops.specs.declared.call.Query.{Query as Asked};
 ghost use Rattle.td_trader.specs.Worlds.{View, Watches};
 ghost use Rattle.td_walk.specs.declared.answer.Next.TheVariants.{Done};
 ghost use Rattle.td_walk.specs.declared.trace.TraceItem.{TraceItem as Item};
-ghost use Rattle.td_walk_laws.specs.Faults.{CountsFaults};
-ghost use Rattle.td_walk_laws.specs.Reach.{IsRead};
+ghost use Rattle.td_query_walk.specs.Faults.{CountsFaults};
+ghost use Rattle.td_query_walk.specs.Reach.{HasReadPath};
 
-use crate::asking::{Asking, ask};
-use crate::entering::{Entry, enter};
+use crate::entering::{VisitStart, enter};
 use crate::innermost::{answer_innermost, end_innermost, next_of_innermost, open_innermost};
+use crate::outside::{Asking, ask};
 use std::alloc::Global;
 use std::mem;
 use td_cdr::{List, Memory, Shared};
@@ -33,7 +33,7 @@ use td_walk::{Address, Next, Peers, Trace, TraceItem, Visit};
 ///
 /// # Errors
 ///
-/// `Memory` for want of memory alone. What came behind the trace is then the beginning of a walk: it shows how far the
+/// `Memory` only when out of memory. What came behind the trace is then the beginning of a walk: it shows how far the
 /// query came, with each mark that was made and what each peer gave.
 pub fn visit<T: Traders, P: Peers, W: Words>(
     alloc: Global,
@@ -49,7 +49,7 @@ pub fn visit<T: Traders, P: Peers, W: Words>(
     ensures same { T.same traders.old traders.new }
     ensures same_peers { P.same peers.old peers.new }
     ensures same_words { W.same words.old words.new }
-    ensures visited { IfOk result (λ v. Visited T.others T.later home.now
+    ensures visited { IfOk result (λ v. WalksTo T.others T.later home.now
         (course (T.world traders.old) (W.word words.old) (P.calls peers.old))
         trader q.now trace.old.items trace.new.items v
         (course (T.world traders.new) (W.word words.new) (P.calls peers.new))) }
@@ -88,7 +88,7 @@ fn walk<T: Traders, P: Peers, W: Words>(
     ensures same { T.same traders.old traders.new }
     ensures same_peers { P.same peers.old peers.new }
     ensures same_words { W.same words.old words.new }
-    ensures visited { IfOk result (λ v. Visited T.others T.later home.now
+    ensures visited { IfOk result (λ v. WalksTo T.others T.later home.now
         (course (T.world traders.old) (W.word words.old) (P.calls peers.old))
         trader q.now notes.old.items notes.new.items v
         (course (T.world traders.new) (W.word words.new) (P.calls peers.new))) }
@@ -105,8 +105,8 @@ fn walk<T: Traders, P: Peers, W: Words>(
         (P.faults peers.new) }
 {
     match enter(alloc, traders, trader, q, notes)? {
-        Entry::Ended(visit) => Ok(visit),
-        Entry::Open(first) => walk_on(alloc, traders, home, peers, words, notes, first),
+        VisitStart::Ended(visit) => Ok(visit),
+        VisitStart::Open(first) => walk_on(alloc, traders, home, peers, words, notes, first),
     }
 }
 
@@ -121,18 +121,18 @@ fn walk_on<T: Traders, P: Peers, W: Words>(
     notes: &mut Vec<TraceItem>,
     first: Frame,
 ) -> Result<Visit, Memory>
-    requires { IsRead first.local }
+    requires { HasReadPath first.local }
     ensures same { T.same traders.old traders.new }
     ensures same_peers { P.same peers.old peers.new }
     ensures same_words { W.same words.old words.new }
     ensures visited { (w : List View) (k : ℕ) (q : Asked) (before : List Item) →
-        IsEntered (Begins T.others T.later) w k q (entry.Open first) before notes.old.items
+        IsEntered (BeginsVisit T.others T.later) w k q (entry.Open first) before notes.old.items
         (T.world traders.old) → IfOk result
-        (λ v. Visited T.others T.later home.now (course w (W.word words.old) (P.calls peers.old))
+        (λ v. WalksTo T.others T.later home.now (course w (W.word words.old) (P.calls peers.old))
         k q before notes.new.items v (course (T.world traders.new) (W.word words.new)
         (P.calls peers.new))) }
     ensures so_far { (w : List View) (k : ℕ) (q : Asked) (before : List Item) →
-        IsEntered (Begins T.others T.later) w k q (entry.Open first) before notes.old.items
+        IsEntered (BeginsVisit T.others T.later) w k q (entry.Open first) before notes.old.items
         (T.world traders.old) → OnErr result
         (VisitedSoFar T.others T.later home.now (course w (W.word words.old) (P.calls peers.old))
         k q before notes.new.items (course (T.world traders.new) (W.word words.new)
@@ -170,11 +170,13 @@ fn turn<T: Traders, P: Peers, W: Words>(
     ensures same { T.same traders.old traders.new }
     ensures same_peers { P.same peers.old peers.new }
     ensures same_words { W.same words.old words.new }
-    ensures turns { IfOk result (λ v. IsTurn (Begins T.others T.later) (inside_group home.now)
+    ensures turns { IfOk result (λ v. IsWalkTurn (BeginsVisit T.others T.later)
+        (inside_group home.now)
         (course (T.world traders.old) (W.word words.old) (P.calls peers.old))
         stack.old.items v stack.new.items notes.old.items notes.new.items
         (course (T.world traders.new) (W.word words.new) (P.calls peers.new))) }
-    ensures so_far { OnErr result (IsTurnSoFar (Begins T.others T.later) (Watches T.others T.later)
+    ensures so_far { OnErr result (IsTurnSoFar (BeginsVisit T.others T.later)
+        (Watches T.others T.later)
         (inside_group home.now) (course (T.world traders.old) (W.word words.old)
         (P.calls peers.old)) stack.old.items notes.old.items notes.new.items
         (course (T.world traders.new) (W.word words.new) (P.calls peers.new))) }
@@ -206,16 +208,16 @@ fn ask_innermost<T: Traders, P: Peers>(
     question: Next,
 ) -> Result<(), Memory>
     requires left { question ≡ Done → ⊥ }
-    requires asks { Asks stack.old.items question }
+    requires asks { HasQuestion stack.old.items question }
     ensures same { T.same traders.old traders.new }
     ensures same_peers { P.same peers.old peers.new }
     ensures turns { (words : ℕ → ℕ)
-        → OnOk result (IsTurn (Begins T.others T.later) (inside_group home.now)
+        → OnOk result (IsWalkTurn (BeginsVisit T.others T.later) (inside_group home.now)
         (course (T.world traders.old) words (P.calls peers.old))
         stack.old.items None stack.new.items notes.old.items notes.new.items
         (course (T.world traders.new) words (P.calls peers.new))) }
     ensures so_far { (words : ℕ → ℕ)
-        → OnErr result (IsTurnSoFar (Begins T.others T.later) (Watches T.others T.later)
+        → OnErr result (IsTurnSoFar (BeginsVisit T.others T.later) (Watches T.others T.later)
         (inside_group home.now) (course (T.world traders.old) words (P.calls peers.old))
         stack.old.items notes.old.items notes.new.items
         (course (T.world traders.new) words (P.calls peers.new))) }

@@ -6,30 +6,30 @@ use Rattle.std.specs.Result.{result_unwrap_or}
 use Rattle.td_cdr.specs.Marks.{Marks}
 use Rattle.td_changes.specs.declared.bounds.Bounds.{Bounds}
 use Rattle.td_fed.proofs.Members.{Beginnings}
-use Rattle.td_fed.specs.Visiting.{Begins, start_of}
+use Rattle.td_fed.specs.Visiting.{BeginsVisit, start_of}
 use Rattle.td_ops.specs.declared.call.Query.{Query}
 use Rattle.td_ops.specs.declared.outcome.Outcome.{Outcome}
 use Rattle.td_policy.specs.Stated.{nothing as nothing_stated, stated}
 use Rattle.td_policy.specs.declared.fault.PolicyFault.{PolicyFault}
 use Rattle.td_policy.specs.declared.stated.Stated.{Stated}
-use Rattle.td_register.specs.Causes.{Cause, given, ◌otherwise◌}
-use Rattle.td_register.specs.Named.{known as known_type}
+use Rattle.td_register.specs.Causes.{Cause, with_cause, ◌otherwise◌}
+use Rattle.td_register.specs.Named.{type_found as known_type}
 use Rattle.td_register.specs.Registers.{asked_in, no_more}
 use Rattle.td_register.specs.Stores.{Store}
 use Rattle.td_register.specs.declared.history.Accepted.{Accepted}
 use Rattle.td_store.specs.declared.local.Local.{Local}
 use Rattle.td_store.specs.declared.record.LinkRecord.{LinkRecord}
-use Rattle.td_trader.specs.BeginLaws.{IsPassedOn, IsSearched}
+use Rattle.td_trader.specs.BeginLaws.{IsPassedOn, IsSearchOfStore}
 use Rattle.td_trader.specs.Beginning.{after_begin, begin_along, begin_here, begin_of, begin_unless, is_search}
 use Rattle.td_trader.specs.Beginning.{repeated_in, searched_under}
 use Rattle.td_trader.specs.Queries.{parts_cause, parts_of, path_link, preferred_in, refusal, unless_fault}
-use Rattle.td_trader.specs.Solos.{nothing, unchanged}
-use Rattle.td_trader.specs.Worlds.{Begun, View, after_begin as seen_after, after_others, history_at, store_seen}
+use Rattle.td_trader.specs.Solos.{no_changes, same_marks}
+use Rattle.td_trader.specs.Worlds.{BeginsQuery, View, after_begin as seen_after, after_others, history_at, store_seen}
 use Rattle.td_trader.specs.Worlds.{with_view}
 use Rattle.td_trader.specs.declared.begin.Begin.{Begin}
 use Rattle.td_trader.specs.declared.begin.Begin.TheVariants as begin
 use Rattle.td_trader.proofs.Begun.{are_passed_on, are_served, only_searches}
-use Rattle.td_walk_laws.specs.Walks.{Path, Refused, Repeat, Search}
+use Rattle.td_query_walk.specs.Walks.{Path, Refused, Repeat, Search}
 
 -- ---- one of a list
 
@@ -54,7 +54,7 @@ pub record BeginsAlone (w : List View) (k : ℕ) (q : Query) (b : Begin) (u : Li
   pub begin : b ≡ begin_of view.bounds (store_seen view) (length view.history) view.marks q
   pub world : u ≡ with_view w k (seen_after view (after_begin (store_seen view) view.marks q b))
 
-pub alone : (w : List View) (k : ℕ) (q : Query) (b : Begin) (u : List View) → Begun nothing unchanged w k q b u
+pub alone : (w : List View) (k : ℕ) (q : Query) (b : Begin) (u : List View) → BeginsQuery no_changes same_marks w k q b u
     → BeginsAlone w k q b u
 alone w k q b u h =
     let m = h.meanwhile in
@@ -89,7 +89,7 @@ unmoved w k q b u other a =
 abbrev pub IsTaken : Query → Type 0
 IsTaken q = stated q.policies ≡ Ok (parts_of q).stated
 
-ok-stated : (r : Result Stated PolicyFault) → given (unless_fault r) no_more ≡ None
+ok-stated : (r : Result Stated PolicyFault) → with_cause (unless_fault r) no_more ≡ None
     → r ≡ Ok (result_unwrap_or r nothing_stated)
 ok-stated (Ok s) h = refl
 ok-stated (Err f) h = absurd (let bad : ⊥ = cc in bad)
@@ -101,10 +101,10 @@ neither (Some f) b h = absurd (let bad : ⊥ = cc in bad)
 taken : (bounds : Bounds) (count : ℕ) (s : Store) (q : Query) → refusal bounds count s q ≡ None → IsTaken q
 unfolding refusal
 taken bounds count s q h =
-    let parts = (neither (given (known_type s.types.types q.service_type) no_more) _ h).1 in
+    let parts = (neither (with_cause (known_type s.types.types q.service_type) no_more) _ h).1 in
     let texts = (neither (parts_cause q) _ parts).0 in
-    let two = (neither (given (asked_in q.constraint) no_more) _ texts).1 in
-    let policies = (neither (given (preferred_in q.preference) no_more) _ two).1 in
+    let two = (neither (with_cause (asked_in q.constraint) no_more) _ texts).1 in
+    let policies = (neither (with_cause (preferred_in q.preference) no_more) _ two).1 in
     ok-stated (stated q.policies) policies
 
 pub record IsRepeatHere (m : Marks) (q : Query) (number : ℕ) : Type 0 where
@@ -114,7 +114,7 @@ pub record IsRepeatHere (m : Marks) (q : Query) (number : ℕ) : Type 0 where
 pub record IsSearchHere (s : Store) (point : ℕ) (m : Marks) (q : Query) (l : Local) : Type 0 where
   pub taken : IsTaken q
   pub new : repeated_in m (parts_of q).stated ≡ None
-  pub served : IsSearched s point (m.count + 1) (searched_under s m q).identifier q l
+  pub served : IsSearchOfStore s point (m.count + 1) (searched_under s m q).identifier q l
 
 pub record IsPathHere (s : Store) (point : ℕ) (q : Query) (l : Local) : Type 0 where
   pub taken : IsTaken q
@@ -152,7 +152,7 @@ module _ (bounds : Bounds) (s : Store) (point : ℕ) (m : Marks) (q : Query) whe
 -- ---- by the way it began
 
 pub refused-is : (point p : ℕ) (o : Outcome) (b : Begin) → Refused p o ≡ start_of point b → is_search b ≡ false
-refused-is point p o (begin.Refused told) e = refl
+refused-is point p o (begin.Refused content) e = refl
 refused-is point p o (begin.Repeat n) e = refl
 refused-is point p o (begin.Search l) e = absurd (let bad : ⊥ = cc in bad)
 refused-is point p o (begin.Path l) e = refl
@@ -176,7 +176,7 @@ path-is point l (begin.Search k) e = absurd (let bad : ⊥ = cc in bad)
 path-is point l (begin.Path k) e = let same : k ≡ l = cc in ap (λ (x : Local). begin.Path x) same
 
 pub refused-begun : (w : List View) (k : ℕ) (q : Query) (p : ℕ) (o : Outcome) (u : List View)
-    → Begins nothing unchanged w k q (Refused p o) u → u ≡ w
+    → BeginsVisit no_changes same_marks w k q (Refused p o) u → u ≡ w
 refused-begun w k q p o u h =
     unmoved w k q h.begin u (refused-is (length (history_at u k)) p o h.begin h.is) (alone w k q h.begin u h.begun)
 
@@ -187,7 +187,7 @@ pub record RepeatBegun (w : List View) (k : ℕ) (q : Query) (n : ℕ) (u : List
   pub world : u ≡ w
 
 pub repeat-begun : (w : List View) (k : ℕ) (q : Query) (p n : ℕ) (u : List View)
-    → Begins nothing unchanged w k q (Repeat p n) u → RepeatBegun w k q n u
+    → BeginsVisit no_changes same_marks w k q (Repeat p n) u → RepeatBegun w k q n u
 repeat-begun w k q p n u h =
     let is = repeat-is (length (history_at u k)) p n h.begin h.is in
     let a = alone w k q h.begin u h.begun in
@@ -208,7 +208,7 @@ pub record PathBegun (w : List View) (k : ℕ) (q : Query) (l : Local) (u : List
   pub world : u ≡ w
 
 pub path-begun : (w : List View) (k : ℕ) (q : Query) (l : Local) (u : List View)
-    → Begins nothing unchanged w k q (Path l) u → PathBegun w k q l u
+    → BeginsVisit no_changes same_marks w k q (Path l) u → PathBegun w k q l u
 path-begun w k q l u h =
     let is = path-is (length (history_at u k)) l h.begin h.is in
     let a = alone w k q h.begin u h.begun in
@@ -229,7 +229,7 @@ pub record SearchBegun (w : List View) (k : ℕ) (q : Query) (l : Local) (u : Li
   pub world : u ≡ with_view w k (seen_after view (after_begin (store_seen view) view.marks q (begin.Search l)))
 
 pub search-begun : (w : List View) (k : ℕ) (q : Query) (l : Local) (u : List View)
-    → Begins nothing unchanged w k q (Search l) u → SearchBegun w k q l u
+    → BeginsVisit no_changes same_marks w k q (Search l) u → SearchBegun w k q l u
 search-begun w k q l u h =
     let is = search-is (length (history_at u k)) l h.begin h.is in
     let a = alone w k q h.begin u h.begun in
@@ -262,7 +262,7 @@ pub record AreKnown (B : Beginnings) : Type 0 where
   pub paths : (w : List View) (k : ℕ) (q : Query) (l : Local) (u : List View) → B w k q (Path l) u → PathSeen q l
 
 pub search-here : (others : List Accepted → Type 0) (later : Marks → Marks → Type 0) (w : List View) (k : ℕ)
-    (q : Query) (l : Local) (u : List View) → (h : Begins others later w k q (Search l) u)
+    (q : Query) (l : Local) (u : List View) → (h : BeginsVisit others later w k q (Search l) u)
     → IsSearchHere (store_seen h.begun.seen) (length h.begun.seen.history) h.begun.seen.marks q l
 search-here others later w k q l u h =
     let v = h.begun.seen in
@@ -271,7 +271,7 @@ search-here others later w k q l u h =
     (known-begin v.bounds (store_seen v) (length v.history) v.marks q h.begin h.begun.begin)
 
 pub repeat-here : (others : List Accepted → Type 0) (later : Marks → Marks → Type 0) (w : List View) (k : ℕ)
-    (q : Query) (p n : ℕ) (u : List View) → (h : Begins others later w k q (Repeat p n) u)
+    (q : Query) (p n : ℕ) (u : List View) → (h : BeginsVisit others later w k q (Repeat p n) u)
     → IsRepeatHere h.begun.seen.marks q n
 repeat-here others later w k q p n u h =
     let v = h.begun.seen in
@@ -279,7 +279,7 @@ repeat-here others later w k q p n u h =
     (repeat-is (length (history_at u k)) p n h.begin h.is)
     (known-begin v.bounds (store_seen v) (length v.history) v.marks q h.begin h.begun.begin)
 
-pub known : (others : List Accepted → Type 0) (later : Marks → Marks → Type 0) → AreKnown (Begins others later)
+pub known : (others : List Accepted → Type 0) (later : Marks → Marks → Type 0) → AreKnown (BeginsVisit others later)
 known others later = record {
   searches = λ w k q l u h. record { seen = h.begun.seen; here = search-here others later w k q l u h };
   paths =

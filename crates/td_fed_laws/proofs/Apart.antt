@@ -1,12 +1,13 @@
 -- How far apart the marks of one walk are, and what follows where it is remembered and fresh.
 use Rattle.std.proofs.Common.{◌≡◌, ℕ, ◌+◌, ◌<◌, inl, List, [], ◌∷◌, ◌++◌, Some}
 use Rattle.std.proofs.Common.{refl, sym, ap, subst, ◌∙◌, arith}
-use Rattle.td_cdr.specs.Marks.{Holds, In, Later, Marks}
+use Rattle.td_cdr.specs.Marks.{RemembersAs, In, Later, Marks}
 use Rattle.td_fed.proofs.Members.{Insides}
-use Rattle.td_fed.specs.Visiting.{Begins}
+use Rattle.td_fed.specs.Visiting.{BeginsVisit}
 use Rattle.td_fed_laws.specs.Arrivals.{Arrival, arrivals, identifier_of, sent}
 use Rattle.td_fed_laws.specs.Fresh.{Remembers}
-use Rattle.td_fed_laws.specs.SharedLaws.{FreshWalksNameSearches, FreshWalksRepeatExactly, IsFresh, IsFreshUnder}
+use Rattle.td_fed_laws.specs.SharedLaws.{FreshWalksNameSearches, FreshWalksRepeatExactly, VisitsOwnIdentifiers}
+use Rattle.td_fed_laws.specs.SharedLaws.{IsFreshUnder}
 use Rattle.td_fed_laws.specs.SharedLaws.{HaveRoom, IsRemembered, RememberedWalksSearchOnce, WalksAloneAreRemembered}
 use Rattle.td_fed_laws.specs.SharedLaws.{WalksAreNamed, WalksAreUnderOne}
 use Rattle.td_fed_laws.specs.Traces.{HasSearch, visited_by}
@@ -14,24 +15,24 @@ use Rattle.td_fed_laws.specs.WalkLaws.{NamesSearches, RepeatsExactly, SearchesOn
 use Rattle.td_fed_laws.specs.WalkLaws.{ring_at, ring_in}
 use Rattle.td_fed_laws.proofs.Arriving.{in-right, visit-noted, walk-sent}
 use Rattle.td_fed_laws.proofs.Carried.{request, says}
-use Rattle.td_fed_laws.proofs.Marking.{IsSearched as SearchTold, Knows, Told, walk-marked}
-use Rattle.td_fed_laws.proofs.Naming.{AllTold, all-told}
+use Rattle.td_fed_laws.proofs.Marking.{IsSearched as SearchTold, Knows, HasContent, walk-marked}
+use Rattle.td_fed_laws.proofs.Naming.{AllContent, all-content}
 use Rattle.td_fed_laws.proofs.Noting.{repeats-exactly-by}
 use Rattle.td_ops.specs.declared.call.Query.{Query}
-use Rattle.td_places.specs.Targets.{inside_group}
+use Rattle.td_targets.specs.Targets.{inside_group}
 use Rattle.td_register.specs.declared.history.Accepted.{Accepted}
 use Rattle.td_trader.specs.Queries.{parts_of}
-use Rattle.td_trader.specs.Solos.{nothing, unchanged, unchanged_later}
+use Rattle.td_trader.specs.Solos.{no_changes, same_marks, unchanged_later}
 use Rattle.td_trader.specs.Worlds.{View}
 use Rattle.td_walk.specs.declared.trace.TraceItem.{TraceItem}
 use Rattle.td_walk.specs.declared.trace.TraceItem.TheVariants as item
 use Rattle.td_walk.specs.declared.trace.Visit.{Visit}
-use Rattle.td_walk_laws.specs.Walks.{Course, Walk}
+use Rattle.td_query_walk.specs.Walks.{WalkState, Walk}
 
 -- no trader remembers the identifier at first, and no other marks it
 record IsQuiet (w : List View) (xs : List Arrival) (id : List ℕ) : Type 0 where
   forgotten : (trader number : ℕ) → Remembers w trader id number → ⊥
-  unmarked : (a : Arrival) → In a xs → (number : ℕ) → Holds a.seen.marks id number → Holds a.last.marks id number
+  unmarked : (a : Arrival) → In a xs → (number : ℕ) → RemembersAs a.seen.marks id number → RemembersAs a.last.marks id number
 
 rejoined : (before middle rest : List TraceItem) (i j : TraceItem)
     → before ++ i ∷ middle ++ j ∷ rest ≡ (before ++ i ∷ middle) ++ j ∷ rest
@@ -39,8 +40,8 @@ rejoined [] middle rest i j = refl
 rejoined (x ∷ before) middle rest i j = ap (λ (y : List TraceItem). x ∷ y) (rejoined before middle rest i j)
 
 module _ (others : List Accepted → Type 0) (later : Marks → Marks → Type 0)
-    (grows : (a b : Marks) → later a b → Later a b) (inside : Insides) {s : Course (List View)} {k : ℕ} {q : Query}
-    {t : List TraceItem} {v : Visit} {u : Course (List View)} (walk : Walk (Begins others later) inside s k q t v u)
+    (grows : (a b : Marks) → later a b → Later a b) (inside : Insides) {s : WalkState (List View)} {k : ℕ} {q : Query}
+    {t : List TraceItem} {v : Visit} {u : WalkState (List View)} (walk : Walk (BeginsVisit others later) inside s k q t v u)
     (Still : Type 0) (stays : Still → (a b : Marks) → later a b → b.count ≡ a.count) (room : Still → HaveRoom s.world)
   where
     abbrev Quiet : List ℕ → Type 0
@@ -55,17 +56,17 @@ module _ (others : List Accepted → Type 0) (later : Marks → Marks → Type 0
       last = λ still mark h. elim h.there [ ];
     }
 
-    told : AllTold others later grows inside (ring_at s.world) Quiet Still stays (arrivals [] walk)
-    told =
-        all-told others later grows inside (ring_at s.world) Quiet Still stays walk at-first
+    content : AllContent others later grows inside (ring_at s.world) Quiet Still stays (arrivals [] walk)
+    content =
+        all-content others later grows inside (ring_at s.world) Quiet Still stays walk at-first
         (λ id a i quiet. quiet.unmarked a i)
 
-    told-as : (id : List ℕ) → (parts_of q).stated.request_id ≡ Some id → (a : Arrival) → In a (arrivals [] walk)
-        → Told id (ring_at s.world) (Quiet id) Still a
-    told-as id e =
+    content-as : (id : List ℕ) → (parts_of q).stated.request_id ≡ Some id → (a : Arrival) → In a (arrivals [] walk)
+        → HasContent id (ring_at s.world) (Quiet id) Still a
+    content-as id e =
         (walk-marked others later grows inside id (ring_at s.world) (Quiet id) Still stays [] walk
         (says request q (Some id) e)
-        (λ a i quiet. quiet.unmarked a i) (at-first id)).told
+        (λ a i quiet. quiet.unmarked a i) (at-first id)).content
 
     -- a search, far from each one before
     record SearchAt (before : List TraceItem) (n mark : ℕ) : Type 0 where
@@ -73,7 +74,7 @@ module _ (others : List Accepted → Type 0) (later : Marks → Marks → Type 0
       is_in : In arrival (arrivals [] walk)
       before_is : arrival.before ≡ before
       visits : visited_by arrival.item ≡ Some n
-      is : SearchTold told.identifier (ring_at s.world) (Quiet told.identifier) Still arrival n mark
+      is : SearchTold content.identifier (ring_at s.world) (Quiet content.identifier) Still arrival n mark
 
     search-at : (before rest : List TraceItem) (n point mark : ℕ) → t ≡ before ++ item.Search n point mark ∷ rest
         → SearchAt before n mark
@@ -84,7 +85,7 @@ module _ (others : List Accepted → Type 0) (later : Marks → Marks → Type 0
           is_in = noted.is_in;
           before_is = noted.before_is;
           visits = ap visited_by noted.item_is;
-          is = (told.told noted.arrival noted.is_in).searched n point mark noted.item_is;
+          is = (content.content noted.arrival noted.is_in).searched n point mark noted.item_is;
         }
 
     apart : (before middle rest : List TraceItem) (n point mark p m : ℕ)
@@ -116,8 +117,8 @@ module _ (others : List Accepted → Type 0) (later : Marks → Marks → Type 0
 
     -- no query goes outside
     quiet-of : sent u.calls ≡ sent s.calls → (a : Arrival) (n : ℕ) → In a (arrivals [] walk)
-        → (e : identifier_of a ≡ told.identifier)
-        → IsFreshUnder s.world (sent s.calls) (arrivals [] walk) (identifier_of a) → Quiet told.identifier
+        → (e : identifier_of a ≡ content.identifier)
+        → IsFreshUnder s.world (sent s.calls) (arrivals [] walk) (identifier_of a) → Quiet content.identifier
     quiet-of inside_all a n i e fresh =
         subst Quiet e (record {
           forgotten = fresh.forgotten;
@@ -128,25 +129,25 @@ module _ (others : List Accepted → Type 0) (later : Marks → Marks → Type 0
               let most = w.1 in omega (arith, least, most, inside_all));
         })
 
-    names : IsFresh s (arrivals [] walk) → sent u.calls ≡ sent s.calls → NamesSearches t
+    names : VisitsOwnIdentifiers s (arrivals [] walk) → sent u.calls ≡ sent s.calls → NamesSearches t
     names fresh inside_all before rest n point mark split =
         let noted = visit-noted walk before rest (item.Repeat n point mark) n split refl in
         let a = noted.arrival in
         let visits : visited_by a.item ≡ Some n = ap visited_by noted.item_is in
-        let tells = told.told a noted.is_in in
+        let tells = content.content a noted.is_in in
         let quiet =
         quiet-of inside_all a n noted.is_in (tells.under n visits)
         (fresh a n (record { is_in = noted.is_in; visits = visits })) in
         subst (λ (x : List TraceItem). HasSearch x n mark) noted.before_is
         (tells.named quiet n point mark noted.item_is)
 
-    exactly : IsFresh s (arrivals [] walk) → sent u.calls ≡ sent s.calls → IsRemembered (arrivals [] walk)
+    exactly : VisitsOwnIdentifiers s (arrivals [] walk) → sent u.calls ≡ sent s.calls → IsRemembered (arrivals [] walk)
         → RepeatsExactly t
     exactly fresh inside_all remembered = repeats-exactly-by t (once remembered) (names fresh inside_all)
 
     -- where nobody marks meanwhile
     lasting : Still → IsRemembered (arrivals [] walk)
-    lasting still a n mark visits s = (told.told a visits.is_in).lasts still n mark visits.visits s
+    lasting still a n mark visits s = (content.content a visits.is_in).lasts still n mark visits.visits s
 
 -- ---- the laws
 
@@ -170,16 +171,16 @@ module _ (others : List Accepted → Type 0) (later : Marks → Marks → Type 0
 
   pub are-named : WalksAreNamed others later
   are-named home s u k q t v id walk e a n visits =
-      (told-as others later grows (inside_group home) walk ⊥ (λ x. absurd x) (λ x. absurd x) id e a visits.is_in).under
+      (content-as others later grows (inside_group home) walk ⊥ (λ x. absurd x) (λ x. absurd x) id e a visits.is_in).under
       n
       visits.visits
 
   pub are-under-one : WalksAreUnderOne others later
   are-under-one home s u k q t v walk a b i j va vb =
-      let all = told others later grows (inside_group home) walk ⊥ (λ e. absurd e) (λ e. absurd e) in
-      (all.told a va.is_in).under i va.visits ∙ sym ((all.told b vb.is_in).under j vb.visits)
+      let all = content others later grows (inside_group home) walk ⊥ (λ e. absurd e) (λ e. absurd e) in
+      (all.content a va.is_in).under i va.visits ∙ sym ((all.content b vb.is_in).under j vb.visits)
 
 pub remembered-alone : WalksAloneAreRemembered
 remembered-alone home s u k q t v walk room =
-    lasting nothing unchanged unchanged_later (inside_group home) walk (HaveRoom s.world)
+    lasting no_changes same_marks unchanged_later (inside_group home) walk (HaveRoom s.world)
     (λ r a b e. ap (λ (m : Marks). m.count) e) (λ r. r) room

@@ -3,7 +3,7 @@ use Rattle.std.proofs.Common.{◌≡◌, ℕ, ◌≤◌, ◌⊎◌, inl, inr, Li
 use Rattle.std.proofs.Common.{Option, None, Some, refl, sym, ap, subst, ◌∙◌, arith, le_refl}
 use Rattle.td_cdr.specs.Marks.{In, Marks}
 use Rattle.td_fed.proofs.Members.{Insides}
-use Rattle.td_fed.specs.Visiting.{Begins}
+use Rattle.td_fed.specs.Visiting.{BeginsVisit}
 use Rattle.td_fed_laws.specs.Arrivals.{Arrival, arrival, arrivals, arrivals_by, arrivals_in, sent}
 use Rattle.td_fed_laws.specs.Traces.{visited_by}
 use Rattle.td_ops.specs.declared.call.Query.{Query}
@@ -16,9 +16,9 @@ use Rattle.td_walk.specs.declared.answer.StepAnswer.{StepAnswer}
 use Rattle.td_walk.specs.declared.trace.TraceItem.{TraceItem}
 use Rattle.td_walk.specs.declared.trace.TraceItem.TheVariants as item
 use Rattle.td_walk.specs.declared.trace.Visit.{Visit}
-use Rattle.td_walk_laws.specs.Walks.{Course, Step, Steps, Walk}
-use Rattle.td_walk_laws.specs.Walks.{asked, asking, done, evaluated, outside, refused, repeat}
-use Rattle.td_walk_laws.specs.Walks.{unanswered, unevaluated, unreachable, visited}
+use Rattle.td_query_walk.specs.Walks.{WalkState, Step, Steps, Walk}
+use Rattle.td_query_walk.specs.Walks.{asked, asking, done, evaluated, outside, refused, repeat}
+use Rattle.td_query_walk.specs.Walks.{no_memory_with, unevaluated, unreachable, visited}
 
 -- ---- lists
 
@@ -86,8 +86,8 @@ called-sent calls x = record { rises = sent-called calls x; within = λ a h. eli
 
 module _ {others : List Accepted → Type 0} {later : Marks → Marks → Type 0} {inside : Insides} where
   mutual
-    pub walk-sent : (p : List TraceItem) {s : Course (List View)} {k : ℕ} {q : Query} {t : List TraceItem} {v : Visit}
-        {u : Course (List View)} → (walk : Walk (Begins others later) inside s k q t v u)
+    pub walk-sent : (p : List TraceItem) {s : WalkState (List View)} {k : ℕ} {q : Query} {t : List TraceItem} {v : Visit}
+        {u : WalkState (List View)} → (walk : Walk (BeginsVisit others later) inside s k q t v u)
         → SentWithin (sent s.calls) (sent u.calls) (arrivals p walk)
     walk-sent p (refused {s = s} b) = sent-first (sent s.calls) (sent s.calls) _ [] refl (none-sent (sent s.calls))
     walk-sent p (repeat {s = s} b) = sent-first (sent s.calls) (sent s.calls) _ [] refl (none-sent (sent s.calls))
@@ -97,21 +97,21 @@ module _ {others : List Accepted → Type 0} {later : Marks → Marks → Type 0
         subst (λ (calls : List Exchange). SentWithin (sent s.calls) (sent calls) (first ∷ rest)) (sym en.calls)
         (sent-first (sent s.calls) (sent m.calls) first rest refl (steps-sent (p ++ head ∷ []) steps))
 
-    steps-sent : (p : List TraceItem) {s : Course (List View)} {l : Local} {answers : List StepAnswer}
-        {t : List TraceItem} {all : List StepAnswer} {u : Course (List View)}
-        → (steps : Steps (Begins others later) inside s l answers t all u)
+    steps-sent : (p : List TraceItem) {s : WalkState (List View)} {l : Local} {answers : List StepAnswer}
+        {t : List TraceItem} {all : List StepAnswer} {u : WalkState (List View)}
+        → (steps : Steps (BeginsVisit others later) inside s l answers t all u)
         → SentWithin (sent s.calls) (sent u.calls) (arrivals_in p steps)
     steps-sent p (done {s = s} e) = none-sent (sent s.calls)
     steps-sent p (asked {s = s} {t = t} {m = m} {u = u} step steps) =
         sent-on (sent s.calls) (sent m.calls) (sent u.calls) (arrivals_by p step) (arrivals_in (p ++ t) steps)
         (step-sent p step) (steps-sent (p ++ t) steps)
 
-    step-sent : (p : List TraceItem) {s : Course (List View)} {question : Next} {t : List TraceItem} {r : StepAnswer}
-        {u : Course (List View)} → (step : Step (Begins others later) inside s question t r u)
+    step-sent : (p : List TraceItem) {s : WalkState (List View)} {question : Next} {t : List TraceItem} {r : StepAnswer}
+        {u : WalkState (List View)} → (step : Step (BeginsVisit others later) inside s question t r u)
         → SentWithin (sent s.calls) (sent u.calls) (arrivals_by p step)
     step-sent p (visited i walk) = walk-sent p walk
     step-sent p (outside {s = s} i small) = called-sent s.calls _
-    step-sent p (unanswered {s = s} i f) = called-sent s.calls _
+    step-sent p (no_memory_with {s = s} i f) = called-sent s.calls _
     step-sent p (evaluated {s = s} i) = called-sent s.calls _
     step-sent p (unevaluated {s = s} i f) = called-sent s.calls _
     step-sent p (unreachable {s = s} i) = none-sent (sent s.calls)
@@ -148,9 +148,9 @@ AtEach P xs = (a : Arrival) → In a xs → P a.before a.item
 module _ {others : List Accepted → Type 0} {later : Marks → Marks → Type 0} {inside : Insides} where
   mutual
     walk-all : (P : List TraceItem → TraceItem → Type 0) (plain : Plain P) (p : List TraceItem)
-        {s : Course (List View)} {k : ℕ}
-        {q : Query} {t : List TraceItem} {v : Visit} {u : Course (List View)}
-        → (walk : Walk (Begins others later) inside s k q t v u) → AtEach P (arrivals p walk) → AllAt P p t
+        {s : WalkState (List View)} {k : ℕ}
+        {q : Query} {t : List TraceItem} {v : Visit} {u : WalkState (List View)}
+        → (walk : Walk (BeginsVisit others later) inside s k q t v u) → AtEach P (arrivals p walk) → AllAt P p t
     walk-all P plain p (refused b) h = (h _ (inl refl), tt)
     walk-all P plain p (repeat b) h = (h _ (inl refl), tt)
     walk-all P plain p (asking {head = head} {t = t} b o steps en) h = (
@@ -161,9 +161,9 @@ module _ {others : List Accepted → Type 0} {later : Marks → Marks → Type 0
     )
 
     steps-all : (P : List TraceItem → TraceItem → Type 0) (plain : Plain P) (p : List TraceItem)
-        {s : Course (List View)}
-        {l : Local} {answers : List StepAnswer} {t : List TraceItem} {all : List StepAnswer} {u : Course (List View)}
-        → (steps : Steps (Begins others later) inside s l answers t all u) → AtEach P (arrivals_in p steps)
+        {s : WalkState (List View)}
+        {l : Local} {answers : List StepAnswer} {t : List TraceItem} {all : List StepAnswer} {u : WalkState (List View)}
+        → (steps : Steps (BeginsVisit others later) inside s l answers t all u) → AtEach P (arrivals_in p steps)
         → AllAt P p t
     steps-all P plain p (done e) h = tt
     steps-all P plain p (asked {t = t} {ts = ts} step steps) h =
@@ -173,12 +173,12 @@ module _ {others : List Accepted → Type 0} {later : Marks → Marks → Type 0
         (λ a i. h a (in-right a (arrivals_by p step) (arrivals_in (p ++ t) steps) i)))
 
     step-all : (P : List TraceItem → TraceItem → Type 0) (plain : Plain P) (p : List TraceItem)
-        {s : Course (List View)}
-        {question : Next} {t : List TraceItem} {r : StepAnswer} {u : Course (List View)}
-        → (step : Step (Begins others later) inside s question t r u) → AtEach P (arrivals_by p step) → AllAt P p t
+        {s : WalkState (List View)}
+        {question : Next} {t : List TraceItem} {r : StepAnswer} {u : WalkState (List View)}
+        → (step : Step (BeginsVisit others later) inside s question t r u) → AtEach P (arrivals_by p step) → AllAt P p t
     step-all P plain p (visited i walk) h = walk-all P plain p walk h
     step-all P plain p (outside {a = a} i small) h = (plain p (item.Outside a) refl, tt)
-    step-all P plain p (unanswered {f = f} i n) h = (plain p (item.Failed f) refl, tt)
+    step-all P plain p (no_memory_with {f = f} i n) h = (plain p (item.Failed f) refl, tt)
     step-all P plain p (evaluated {value = value} i) h = (plain p (item.Evaluated value) refl, tt)
     step-all P plain p (unevaluated {f = f} i n) h = (plain p (item.Failed f) refl, tt)
     step-all P plain p (unreachable i) h = (plain p item.Unreachable refl, tt)
@@ -205,8 +205,8 @@ each-noted : (xs : List Arrival) → AtEach (IsNoted xs) xs
 each-noted xs a there trader visits = record { arrival = a; is_in = there; before_is = refl; item_is = refl }
 
 pub visit-noted : {others : List Accepted → Type 0} {later : Marks → Marks → Type 0} {inside : Insides}
-    {s : Course (List View)} {k : ℕ} {q : Query} {t : List TraceItem} {v : Visit} {u : Course (List View)}
-    (walk : Walk (Begins others later) inside s k q t v u) (before rest : List TraceItem) (i : TraceItem) (trader : ℕ)
+    {s : WalkState (List View)} {k : ℕ} {q : Query} {t : List TraceItem} {v : Visit} {u : WalkState (List View)}
+    (walk : Walk (BeginsVisit others later) inside s k q t v u) (before rest : List TraceItem) (i : TraceItem) (trader : ℕ)
     → t ≡ before ++ i ∷ rest → visited_by i ≡ Some trader → Noted (arrivals [] walk) before i
 visit-noted walk before rest i trader is visits =
     let xs = arrivals [] walk in

@@ -3,7 +3,7 @@ use Rattle.std.proofs.Common.{◌≡◌, ℕ, ◌-◌, ◌<◌, ◌≤◌, List,
 use Rattle.std.proofs.Common.{◌∙◌, arith, ltb-true}
 use Rattle.std.specs.Result.{result_unwrap_or}
 use Rattle.std.specs.Prelude.{Result}
-use Rattle.td_codes.specs.declared.reference.Ior.{Ior}
+use Rattle.td_typecode.specs.declared.reference.Ior.{Ior}
 use Rattle.td_fed_laws.proofs.Alone.{IsPathHere, IsSearchHere}
 use Rattle.td_ops.specs.declared.call.Query.{Query}
 use Rattle.td_policy.specs.Effective.{effective_number}
@@ -20,9 +20,9 @@ use Rattle.td_walk.specs.SubQueries.{path_left, path_query, wanted_behind}
 use Rattle.td_walk.specs.Visits.{next_of}
 use Rattle.td_walk.specs.declared.answer.Next.TheVariants.{Forward}
 use Rattle.td_walk.specs.declared.answer.StepAnswer.{StepAnswer}
-use Rattle.td_walk_laws.specs.Reach.{IsPassed, along_path, over_link, to_proxy}
-use Rattle.td_walk_laws.proofs.Passed.{along_a_path, over_a_link, to_a_proxy}
-use Rattle.td_walk_laws.proofs.Questions.{only_passed}
+use Rattle.td_query_walk.specs.Reach.{IsPassed, along_path, over_link, to_proxy}
+use Rattle.td_query_walk.proofs.Passed.{along_a_path, over_a_link, to_a_proxy}
+use Rattle.td_query_walk.proofs.Questions.{only_passed}
 
 -- ---- what a query states, where its policies can be read
 

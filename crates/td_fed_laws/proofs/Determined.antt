@@ -4,11 +4,11 @@ use Rattle.std.proofs.Common.{◌≡◌, ℕ, Bool, true, false, true≢false, L
 use Rattle.std.proofs.Common.{Option, Some, refl, sym, ap, subst, ◌∙◌, slice_get}
 use Rattle.std.specs.Prelude.{Ok, Err}
 use mathlib.Core.Path.{fun_ext}
-use Rattle.td_codes.specs.declared.code.Any.{Any}
-use Rattle.td_codes.specs.declared.reference.Ior.{Ior}
+use Rattle.td_typecode.specs.declared.code.Any.{Any}
+use Rattle.td_typecode.specs.declared.reference.Ior.{Ior}
 use Rattle.td_fed.proofs.Members.{Insides, same-view}
-use Rattle.td_places.specs.Targets.{inside_group}
-use Rattle.td_fed.specs.Visiting.{Begins, course, start_of}
+use Rattle.td_targets.specs.Targets.{inside_group}
+use Rattle.td_fed.specs.Visiting.{BeginsVisit, course, start_of}
 use Rattle.td_fed_laws.specs.WalkLaws.{WalksAreDetermined}
 use Rattle.td_fed_laws.proofs.Alone.{alone}
 use Rattle.td_fed_laws.proofs.Leading.{no-step}
@@ -16,13 +16,13 @@ use Rattle.td_ops.specs.declared.call.Query.{Query}
 use Rattle.td_ops.specs.declared.outcome.Outcome.{Outcome}
 use Rattle.td_store.specs.declared.local.Local.{Local}
 use Rattle.td_trader.specs.Beginning.{after_begin, begin_of}
-use Rattle.td_trader.specs.Solos.{nothing, unchanged}
+use Rattle.td_trader.specs.Solos.{no_changes, same_marks}
 use Rattle.td_trader.specs.Worlds.{View, after_begin as seen_after, history_at, store_seen, with_view}
 use Rattle.td_trader.specs.declared.begin.Begin.{Begin}
 use Rattle.td_walk.specs.Answers.{DrawsGathered, HasDrawn, IsAnswer}
 use Rattle.td_walk.specs.Peering.{Answered as Replied, Evaluated as Valued, Failed as Missed}
 use Rattle.td_walk.specs.Peering.{Evaluating, Exchange, PeerCall, Querying}
-use Rattle.td_walk.specs.Visits.{Reads, visit_of}
+use Rattle.td_walk.specs.Visits.{AnswersRead, visit_of}
 use Rattle.td_walk.specs.declared.answer.Next.{Next}
 use Rattle.td_walk.specs.declared.answer.StepAnswer.{StepAnswer}
 use Rattle.td_walk.specs.declared.answer.StepAnswer.TheVariants as answer
@@ -33,10 +33,10 @@ use Rattle.td_walk.specs.declared.trace.TraceItem.{TraceItem}
 use Rattle.td_walk.specs.declared.trace.TraceItem.TheVariants as item
 use Rattle.td_walk.specs.declared.trace.Visit.{Visit}
 use Rattle.td_walk.specs.declared.trace.Visit.TheVariants as visit
-use Rattle.td_walk_laws.specs.Walks.{Course, Ends, Opens, Refused, Repeat, Start, Step, Steps, Walk}
-use Rattle.td_walk_laws.specs.Walks.{answer_in, called, nothing as no_answer, with_world}
-use Rattle.td_walk_laws.specs.Walks.{asked, asking, done, evaluated, outside, passing, refused, repeat, searching}
-use Rattle.td_walk_laws.specs.Walks.{unanswered, unevaluated, unreachable, visited}
+use Rattle.td_query_walk.specs.Walks.{WalkState, EndsVisit, OpensWith, Refused, Repeat, Start, Step, Steps, Walk}
+use Rattle.td_query_walk.specs.Walks.{answer_in, call_peer, no_offers as no_answer, with_world}
+use Rattle.td_query_walk.specs.Walks.{asked, asking, done, evaluated, outside, passing, refused, repeat, searching}
+use Rattle.td_query_walk.specs.Walks.{no_memory_with, unevaluated, unreachable, visited}
 
 -- ---- a beginning
 
@@ -55,7 +55,7 @@ record OneStart (start begin : Start) (u x : List View) : Type 0 where
   world : u ≡ x
 
 start-one : (w : List View) (k : ℕ) (q : Query) (start begin : Start) (u x : List View)
-    → Begins nothing unchanged w k q start u → Begins nothing unchanged w k q begin x → OneStart start begin u x
+    → BeginsVisit no_changes same_marks w k q start u → BeginsVisit no_changes same_marks w k q begin x → OneStart start begin u x
 start-one w k q start begin u x h i =
     let a = alone w k q h.begin u h.begun in
     let b = alone w k q i.begin x i.begun in
@@ -70,8 +70,8 @@ start-one w k q start begin u x h i =
       world = world;
     }
 
-local-one : (k : ℕ) (l m : Local) {start begin : Start} {head first : TraceItem} → Opens k l start head
-    → Opens k m begin first → start ≡ begin → l ≡ m
+local-one : (k : ℕ) (l m : Local) {start begin : Start} {head first : TraceItem} → OpensWith k l start head
+    → OpensWith k m begin first → start ≡ begin → l ≡ m
 local-one k l m searching searching e = cc
 local-one k l m searching passing e = absurd (let bad : ⊥ = cc in bad)
 local-one k l m passing searching e = absurd (let bad : ⊥ = cc in bad)
@@ -88,12 +88,12 @@ abbrev opens_first : List TraceItem → Bool
 opens_first [] = false
 opens_first (i ∷ is) = opens_visit i
 
-opened-first : (k : ℕ) (l : Local) {start : Start} {head : TraceItem} → Opens k l start head → opens_visit head ≡ true
+opened-first : (k : ℕ) (l : Local) {start : Start} {head : TraceItem} → OpensWith k l start head → opens_visit head ≡ true
 opened-first k l searching = refl
 opened-first k l passing = refl
 
 -- a visit that begins otherwise asks nothing
-not-opened : (k : ℕ) (l : Local) (head i : TraceItem) (t ts : List TraceItem) {start : Start} → Opens k l start head
+not-opened : (k : ℕ) (l : Local) (head i : TraceItem) (t ts : List TraceItem) {start : Start} → OpensWith k l start head
     → opens_visit i ≡ false → i ∷ ts ≡ head ∷ t → ⊥
 not-opened k l head i t ts o shut e =
     true≢false (sym (opened-first k l o) ∙ (sym (ap opens_first e) ∙ shut))
@@ -113,22 +113,22 @@ drawn-one : (l : Local) (answers : List StepAnswer) (word x y : ℕ → ℕ) →
 unfolding HasDrawn
 drawn-one l answers word x y a b = by-visit (visit_of l answers) a b
   where
-    by-visit : (r : Reads Gathered) → DrawsGathered l r word x → DrawsGathered l r word y → x ≡ y
+    by-visit : (r : AnswersRead Gathered) → DrawsGathered l r word x → DrawsGathered l r word y → x ≡ y
     by-visit (Ok r) a b = fun_ext (λ k. a k ∙ sym (b k))
     by-visit (Err question) a b = elim a [ ]
 
-course-one : (u x : Course (List View)) → u.world ≡ x.world → u.words ≡ x.words → u.calls ≡ x.calls → u ≡ x
+course-one : (u x : WalkState (List View)) → u.world ≡ x.world → u.words ≡ x.words → u.calls ≡ x.calls → u ≡ x
 course-one u x world words calls =
     ap (λ (y : List View). course y u.words u.calls) world
     ∙ (ap (λ (y : ℕ → ℕ). course x.world y u.calls) words
     ∙ ap (λ (y : List Exchange). course x.world x.words y) calls)
 
-record OneEnd (a b : SubAnswer) (u x : Course (List View)) : Type 0 where
+record OneEnd (a b : SubAnswer) (u x : WalkState (List View)) : Type 0 where
   gives : a ≡ b
   course_is : u ≡ x
 
-end-one : HasOneAnswer → (s : Course (List View)) (l : Local) (answers : List StepAnswer) (a b : SubAnswer)
-    (u x : Course (List View)) → Ends s l answers a u → Ends s l answers b x → OneEnd a b u x
+end-one : HasOneAnswer → (s : WalkState (List View)) (l : Local) (answers : List StepAnswer) (a b : SubAnswer)
+    (u x : WalkState (List View)) → EndsVisit s l answers a u → EndsVisit s l answers b x → OneEnd a b u x
 end-one one s l answers a b u x h i = record {
   gives = one l answers s.words a b h.answer i.answer;
   course_is =
@@ -139,29 +139,29 @@ end-one one s l answers a b u x h i = record {
 -- ---- two walks
 
 -- as much is left behind both, and they come to the same
-record OneVisit (r rs : List TraceItem) (v z : Visit) (u x : Course (List View)) : Type 0 where
+record OneVisit (r rs : List TraceItem) (v z : Visit) (u x : WalkState (List View)) : Type 0 where
   rest : r ≡ rs
   same : v ≡ z
   course_is : u ≡ x
 
-record OneStep (r rs : List TraceItem) (a b : StepAnswer) (u x : Course (List View)) : Type 0 where
+record OneStep (r rs : List TraceItem) (a b : StepAnswer) (u x : WalkState (List View)) : Type 0 where
   rest : r ≡ rs
   same : a ≡ b
   course_is : u ≡ x
 
-record OneRow (r rs : List TraceItem) (all every : List StepAnswer) (u x : Course (List View)) : Type 0 where
+record OneRow (r rs : List TraceItem) (all every : List StepAnswer) (u x : WalkState (List View)) : Type 0 where
   rest : r ≡ rs
   same : all ≡ every
   course_is : u ≡ x
 
 module _ (inside : Insides) (one : HasOneAnswer) where
-  abbrev StepsTo : Course (List View) → Local → List StepAnswer → List TraceItem → List StepAnswer
-      → Course (List View) → Type 0
-  StepsTo = Steps (Begins nothing unchanged) inside
+  abbrev StepsTo : WalkState (List View) → Local → List StepAnswer → List TraceItem → List StepAnswer
+      → WalkState (List View) → Type 0
+  StepsTo = Steps (BeginsVisit no_changes same_marks) inside
 
-  refused-one : (s : Course (List View)) (k : ℕ) (q : Query) (p n : ℕ) (o f : Outcome) (w y : List View)
-      (r rs : List TraceItem) → Begins nothing unchanged s.world k q (Refused p o) w
-      → Begins nothing unchanged s.world k q (Refused n f) y → item.Refused k p ∷ r ≡ item.Refused k n ∷ rs
+  refused-one : (s : WalkState (List View)) (k : ℕ) (q : Query) (p n : ℕ) (o f : Outcome) (w y : List View)
+      (r rs : List TraceItem) → BeginsVisit no_changes same_marks s.world k q (Refused p o) w
+      → BeginsVisit no_changes same_marks s.world k q (Refused n f) y → item.Refused k p ∷ r ≡ item.Refused k n ∷ rs
       → OneVisit r rs (visit.Refused o) (visit.Refused f) (with_world s w) (with_world s y)
   refused-one s k q p n o f w y r rs b c e =
       let h = start-one s.world k q (Refused p o) (Refused n f) w y b c in
@@ -173,9 +173,9 @@ module _ (inside : Insides) (one : HasOneAnswer) where
         course_is = ap (with_world s) h.world;
       }
 
-  repeat-one : (s : Course (List View)) (k : ℕ) (q : Query) (p n mark number : ℕ) (w y : List View)
-      (r rs : List TraceItem) → Begins nothing unchanged s.world k q (Repeat p mark) w
-      → Begins nothing unchanged s.world k q (Repeat n number) y
+  repeat-one : (s : WalkState (List View)) (k : ℕ) (q : Query) (p n mark number : ℕ) (w y : List View)
+      (r rs : List TraceItem) → BeginsVisit no_changes same_marks s.world k q (Repeat p mark) w
+      → BeginsVisit no_changes same_marks s.world k q (Repeat n number) y
       → item.Repeat k p mark ∷ r ≡ item.Repeat k n number ∷ rs
       → OneVisit r rs (visit.Answered no_answer 0) (visit.Answered no_answer 0) (with_world s w) (with_world s y)
   repeat-one s k q p n mark number w y r rs b c e =
@@ -187,7 +187,7 @@ module _ (inside : Insides) (one : HasOneAnswer) where
       }
 
   -- two visits that ask: the steps of one give those of the other
-  record Asks (s : Course (List View)) (k : ℕ) (q : Query) (t : List TraceItem) (v : Visit) (u : Course (List View))
+  record Asks (s : WalkState (List View)) (k : ℕ) (q : Query) (t : List TraceItem) (v : Visit) (u : WalkState (List View))
       : Type 0 where
     start : Start
     world : List View
@@ -195,18 +195,18 @@ module _ (inside : Insides) (one : HasOneAnswer) where
     head : TraceItem
     items : List TraceItem
     answers : List StepAnswer
-    middle : Course (List View)
+    middle : WalkState (List View)
     given : SubAnswer
-    begins : Begins nothing unchanged s.world k q start world
-    opens : Opens k local start head
+    begins : BeginsVisit no_changes same_marks s.world k q start world
+    opens : OpensWith k local start head
     steps : StepsTo (with_world s world) local [] items answers middle
-    ends : Ends middle local answers given u
+    ends : EndsVisit middle local answers given u
     items_are : t ≡ head ∷ items ++ item.Leave ∷ []
     visit_is : v ≡ visit.Answered given local.attributes.max_list
 
-  asked-one : (s : Course (List View)) (k : ℕ) (q : Query) (t ts r rs : List TraceItem) (v z : Visit)
-      (u x : Course (List View)) → (a : Asks s k q t v u) → (b : Asks s k q ts z x) → t ++ r ≡ ts ++ rs
-      → ((its : List TraceItem) (all : List StepAnswer) (m : Course (List View))
+  asked-one : (s : WalkState (List View)) (k : ℕ) (q : Query) (t ts r rs : List TraceItem) (v z : Visit)
+      (u x : WalkState (List View)) → (a : Asks s k q t v u) → (b : Asks s k q ts z x) → t ++ r ≡ ts ++ rs
+      → ((its : List TraceItem) (all : List StepAnswer) (m : WalkState (List View))
       → StepsTo (with_world s a.world) a.local [] its all m
       → a.items ++ item.Leave ∷ r ≡ its ++ item.Leave ∷ rs
       → OneRow (item.Leave ∷ r) (item.Leave ∷ rs) a.answers all a.middle m)
@@ -225,10 +225,10 @@ module _ (inside : Insides) (one : HasOneAnswer) where
       ∙ (behind a.head b.head ((a.items ++ item.Leave ∷ []) ++ r) ((b.items ++ item.Leave ∷ []) ++ rs) one_list
       ∙ append_assoc b.items (item.Leave ∷ []) rs) in
       let all = row b.items b.answers b.middle alike behind_heads in
-      let end : Ends a.middle a.local a.answers b.given x =
-      subst (λ (y : Local). Ends a.middle y a.answers b.given x) same
-      (subst (λ (y : List StepAnswer). Ends a.middle b.local y b.given x) (sym all.same)
-      (subst (λ (y : Course (List View)). Ends y b.local b.answers b.given x) (sym all.course_is) b.ends)) in
+      let end : EndsVisit a.middle a.local a.answers b.given x =
+      subst (λ (y : Local). EndsVisit a.middle y a.answers b.given x) same
+      (subst (λ (y : List StepAnswer). EndsVisit a.middle b.local y b.given x) (sym all.same)
+      (subst (λ (y : WalkState (List View)). EndsVisit y b.local b.answers b.given x) (sym all.course_is) b.ends)) in
       let ended = end-one one a.middle a.local a.answers a.given b.given u x a.ends end in
       record {
         rest = behind item.Leave item.Leave r rs all.rest;
@@ -238,73 +238,73 @@ module _ (inside : Insides) (one : HasOneAnswer) where
         course_is = ended.course_is;
       }
 
-visited-one : (inside : Insides) (s : Course (List View)) (target : Ior) (q : Query) (k n : ℕ)
+visited-one : (inside : Insides) (s : WalkState (List View)) (target : Ior) (q : Query) (k n : ℕ)
     (ts r rs : List TraceItem)
-    (v z : Visit) (u x : Course (List View)) → inside s.world target ≡ Some k
+    (v z : Visit) (u x : WalkState (List View)) → inside s.world target ≡ Some k
     → inside s.world target ≡ Some n
-    → Walk (Begins nothing unchanged) inside s n q ts z x
-    → (Walk (Begins nothing unchanged) inside s k q ts z x → OneVisit r rs v z u x)
+    → Walk (BeginsVisit no_changes same_marks) inside s n q ts z x
+    → (Walk (BeginsVisit no_changes same_marks) inside s k q ts z x → OneVisit r rs v z u x)
     → OneStep r rs (answer.Offers (answer_in v)) (answer.Offers (answer_in z)) u x
 visited-one inside s target q k n ts r rs v z u x i j walk here =
     let same : n ≡ k = same-trader (inside s.world target) n k j i in
     let h =
-    here (subst (λ (y : ℕ). Walk (Begins nothing unchanged) inside s y q ts z x) same walk) in
+    here (subst (λ (y : ℕ). Walk (BeginsVisit no_changes same_marks) inside s y q ts z x) same walk) in
     record {
       rest = h.rest;
       same = ap (λ (y : Visit). answer.Offers (answer_in y)) h.same;
       course_is = h.course_is;
     }
 
-outside-one : (s : Course (List View)) (call : PeerCall) (r rs : List TraceItem) (a b : SubAnswer)
+outside-one : (s : WalkState (List View)) (call : PeerCall) (r rs : List TraceItem) (a b : SubAnswer)
     → item.Outside a ∷ r ≡ item.Outside b ∷ rs
-    → OneStep r rs (answer.Offers a) (answer.Offers b) (called s call (Replied a)) (called s call (Replied b))
+    → OneStep r rs (answer.Offers a) (answer.Offers b) (call_peer s call (Replied a)) (call_peer s call (Replied b))
 outside-one s call r rs a b e =
     let same : a ≡ b = cc in
     record {
       rest = behind (item.Outside a) (item.Outside b) r rs e;
       same = ap (λ (y : SubAnswer). answer.Offers y) same;
-      course_is = ap (λ (y : SubAnswer). called s call (Replied y)) same;
+      course_is = ap (λ (y : SubAnswer). call_peer s call (Replied y)) same;
     }
 
-failed-one : (s : Course (List View)) (call : PeerCall) (r rs : List TraceItem) (f g : PeerFault)
+failed-one : (s : WalkState (List View)) (call : PeerCall) (r rs : List TraceItem) (f g : PeerFault)
     → item.Failed f ∷ r ≡ item.Failed g ∷ rs
-    → OneStep r rs answer.Failed answer.Failed (called s call (Missed f)) (called s call (Missed g))
+    → OneStep r rs answer.Failed answer.Failed (call_peer s call (Missed f)) (call_peer s call (Missed g))
 failed-one s call r rs f g e =
     let same : f ≡ g = cc in
     record {
       rest = behind (item.Failed f) (item.Failed g) r rs e;
       same = refl;
-      course_is = ap (λ (y : PeerFault). called s call (Missed y)) same;
+      course_is = ap (λ (y : PeerFault). call_peer s call (Missed y)) same;
     }
 
-evaluated-one : (s : Course (List View)) (call : PeerCall) (r rs : List TraceItem) (a b : Any)
+evaluated-one : (s : WalkState (List View)) (call : PeerCall) (r rs : List TraceItem) (a b : Any)
     → item.Evaluated a ∷ r ≡ item.Evaluated b ∷ rs
-    → OneStep r rs (answer.Evaluated a) (answer.Evaluated b) (called s call (Valued a)) (called s call (Valued b))
+    → OneStep r rs (answer.Evaluated a) (answer.Evaluated b) (call_peer s call (Valued a)) (call_peer s call (Valued b))
 evaluated-one s call r rs a b e =
     let same : a ≡ b = cc in
     record {
       rest = behind (item.Evaluated a) (item.Evaluated b) r rs e;
       same = ap (λ (y : Any). answer.Evaluated y) same;
-      course_is = ap (λ (y : Any). called s call (Valued y)) same;
+      course_is = ap (λ (y : Any). call_peer s call (Valued y)) same;
     }
 
 -- the steps from there on, after the same answer
-moved : (inside : Insides) (m n : Course (List View)) (l : Local) (answers : List StepAnswer) (a b : StepAnswer)
-    (ps : List TraceItem) (every : List StepAnswer) (x : Course (List View)) → m ≡ n → a ≡ b
-    → Steps (Begins nothing unchanged) inside n l (answers ++ b ∷ []) ps every x
-    → Steps (Begins nothing unchanged) inside m l (answers ++ a ∷ []) ps every x
+moved : (inside : Insides) (m n : WalkState (List View)) (l : Local) (answers : List StepAnswer) (a b : StepAnswer)
+    (ps : List TraceItem) (every : List StepAnswer) (x : WalkState (List View)) → m ≡ n → a ≡ b
+    → Steps (BeginsVisit no_changes same_marks) inside n l (answers ++ b ∷ []) ps every x
+    → Steps (BeginsVisit no_changes same_marks) inside m l (answers ++ a ∷ []) ps every x
 moved inside m n l answers a b ps every x course_is same others =
-    let turned : Steps (Begins nothing unchanged) inside n l (answers ++ a ∷ []) ps every x =
-    subst (λ (y : StepAnswer). Steps (Begins nothing unchanged) inside n l (answers ++ y ∷ []) ps every x)
+    let turned : Steps (BeginsVisit no_changes same_marks) inside n l (answers ++ a ∷ []) ps every x =
+    subst (λ (y : StepAnswer). Steps (BeginsVisit no_changes same_marks) inside n l (answers ++ y ∷ []) ps every x)
     (sym same) others in
-    subst (λ (y : Course (List View)). Steps (Begins nothing unchanged) inside y l (answers ++ a ∷ []) ps
+    subst (λ (y : WalkState (List View)). Steps (BeginsVisit no_changes same_marks) inside y l (answers ++ a ∷ []) ps
     every x) (sym course_is) turned
 
 mutual
-  walk-one : (inside : Insides) (one : HasOneAnswer) {s : Course (List View)} {k : ℕ} {q : Query}
-      {t ts : List TraceItem} {v z : Visit} {u x : Course (List View)}
-      → Walk (Begins nothing unchanged) inside s k q t v u
-      → Walk (Begins nothing unchanged) inside s k q ts z x → (r rs : List TraceItem)
+  walk-one : (inside : Insides) (one : HasOneAnswer) {s : WalkState (List View)} {k : ℕ} {q : Query}
+      {t ts : List TraceItem} {v z : Visit} {u x : WalkState (List View)}
+      → Walk (BeginsVisit no_changes same_marks) inside s k q t v u
+      → Walk (BeginsVisit no_changes same_marks) inside s k q ts z x → (r rs : List TraceItem)
       → t ++ r ≡ ts ++ rs → OneVisit r rs v z u x
   walk-one inside one (refused {s = s} {k = k} {q = q} {point = p} {o = o} {w = w} b)
       (refused {point = n} {o = f} {w = y} c) r rs e =
@@ -365,10 +365,10 @@ mutual
       })
       e (λ its every f more same. steps-one inside one steps more (item.Leave ∷ r) (item.Leave ∷ rs) same)
 
-  steps-one : (inside : Insides) (one : HasOneAnswer) {s : Course (List View)} {l : Local} {answers : List StepAnswer}
-      {t ts : List TraceItem} {all every : List StepAnswer} {u x : Course (List View)}
-      → Steps (Begins nothing unchanged) inside s l answers t all u
-      → Steps (Begins nothing unchanged) inside s l answers ts every x → (r rs : List TraceItem)
+  steps-one : (inside : Insides) (one : HasOneAnswer) {s : WalkState (List View)} {l : Local} {answers : List StepAnswer}
+      {t ts : List TraceItem} {all every : List StepAnswer} {u x : WalkState (List View)}
+      → Steps (BeginsVisit no_changes same_marks) inside s l answers t all u
+      → Steps (BeginsVisit no_changes same_marks) inside s l answers ts every x → (r rs : List TraceItem)
       → t ++ r ≡ ts ++ rs → OneRow r rs all every u x
   steps-one inside one (done e) (done i) r rs same = record { rest = same; same = refl; course_is = refl }
   steps-one inside one (done e) (asked step steps) r rs same = absurd (no-step inside step e)
@@ -381,23 +381,23 @@ mutual
       steps-one inside one steps
       (moved inside m n l answers a b ps every x here.course_is here.same others) r rs here.rest
 
-  step-one : (inside : Insides) (one : HasOneAnswer) {s : Course (List View)} {question : Next} {t ts : List TraceItem}
-      {a b : StepAnswer} {u x : Course (List View)}
-      → Step (Begins nothing unchanged) inside s question t a u
-      → Step (Begins nothing unchanged) inside s question ts b x → (r rs : List TraceItem)
+  step-one : (inside : Insides) (one : HasOneAnswer) {s : WalkState (List View)} {question : Next} {t ts : List TraceItem}
+      {a b : StepAnswer} {u x : WalkState (List View)}
+      → Step (BeginsVisit no_changes same_marks) inside s question t a u
+      → Step (BeginsVisit no_changes same_marks) inside s question ts b x → (r rs : List TraceItem)
       → t ++ r ≡ ts ++ rs → OneStep r rs a b u x
   step-one inside one (visited {s = s} {target = target} {q = q} {k = k} {v = v} {u = u} i walk)
       (visited {k = n} {t = ts} {v = z} {u = x} j other) r rs e =
       visited-one inside s target q k n ts r rs v z u x i j other (λ same. walk-one inside one walk same r rs e)
   step-one inside one (visited i walk) (outside j small) r rs e = absurd (let bad : ⊥ = cc in bad)
-  step-one inside one (visited i walk) (unanswered j f) r rs e = absurd (let bad : ⊥ = cc in bad)
+  step-one inside one (visited i walk) (no_memory_with j f) r rs e = absurd (let bad : ⊥ = cc in bad)
   step-one inside one (outside i small) (visited j walk) r rs e = absurd (let bad : ⊥ = cc in bad)
   step-one inside one (outside {s = s} {target = target} {q = q} {a = a} i small) (outside {a = b} j limited) r rs e =
       outside-one s (Querying target q) r rs a b e
-  step-one inside one (outside i small) (unanswered j f) r rs e = absurd (let bad : ⊥ = cc in bad)
-  step-one inside one (unanswered i f) (visited j walk) r rs e = absurd (let bad : ⊥ = cc in bad)
-  step-one inside one (unanswered i f) (outside j small) r rs e = absurd (let bad : ⊥ = cc in bad)
-  step-one inside one (unanswered {s = s} {target = target} {q = q} {f = f} i m) (unanswered {f = g} j n) r rs e =
+  step-one inside one (outside i small) (no_memory_with j f) r rs e = absurd (let bad : ⊥ = cc in bad)
+  step-one inside one (no_memory_with i f) (visited j walk) r rs e = absurd (let bad : ⊥ = cc in bad)
+  step-one inside one (no_memory_with i f) (outside j small) r rs e = absurd (let bad : ⊥ = cc in bad)
+  step-one inside one (no_memory_with {s = s} {target = target} {q = q} {f = f} i m) (no_memory_with {f = g} j n) r rs e =
       failed-one s (Querying target q) r rs f g e
   step-one inside one (evaluated {s = s} {e = target} {name = name} {returned = returned} {extra = extra} {value = a} i)
       (evaluated {value = b} j) r rs e =

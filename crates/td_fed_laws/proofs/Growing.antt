@@ -5,7 +5,7 @@ use Rattle.std.proofs.lemmas.Bool.{eqb-false}
 use Rattle.td_cdr.specs.Marks.{Marks}
 use Rattle.td_changes.specs.Histories.{after_all, at}
 use Rattle.td_fed.proofs.Members.{Beginnings, Insides, get-set_other, get-set_same, same-view}
-use Rattle.td_fed.specs.Visiting.{Begins}
+use Rattle.td_fed.specs.Visiting.{BeginsVisit}
 use Rattle.td_fed_laws.proofs.Alone.{IsSearchHere, search-here}
 use Rattle.td_ops.specs.declared.call.Query.{Query}
 use Rattle.td_register.specs.Stores.{Store}
@@ -17,9 +17,9 @@ use Rattle.td_walk.specs.declared.answer.Next.{Next}
 use Rattle.td_walk.specs.declared.answer.StepAnswer.{StepAnswer}
 use Rattle.td_walk.specs.declared.trace.TraceItem.{TraceItem}
 use Rattle.td_walk.specs.declared.trace.Visit.{Visit}
-use Rattle.td_walk_laws.specs.Walks.{Course, Search, Start, Step, Steps, Walk}
-use Rattle.td_walk_laws.specs.Walks.{asked, asking, done, evaluated, outside, refused, repeat}
-use Rattle.td_walk_laws.specs.Walks.{unanswered, unevaluated, unreachable, visited}
+use Rattle.td_query_walk.specs.Walks.{WalkState, Search, Start, Step, Steps, Walk}
+use Rattle.td_query_walk.specs.Walks.{asked, asking, done, evaluated, outside, refused, repeat}
+use Rattle.td_query_walk.specs.Walks.{no_memory_with, unevaluated, unreachable, visited}
 
 -- ---- one trader, and all
 
@@ -90,7 +90,7 @@ put-grown w k v x more at_k opening history j z is = by-trader (nat_eq k j) refl
       history = sym (append-nil z.history);
     }
 
-pub grow : (others : List Accepted → Type 0) (later : Marks → Marks → Type 0) → Grow (Begins others later)
+pub grow : (others : List Accepted → Type 0) (later : Marks → Marks → Type 0) → Grow (BeginsVisit others later)
 grow others later = record {
   grows =
       λ w k q start u h. let b = h.begun in
@@ -116,27 +116,27 @@ grow others later = record {
 -- ---- a walk
 
 mutual
-  walk-grows : (B : Beginnings) (inside : Insides) (g : Grow B) {s : Course (List View)} {k : ℕ} {q : Query}
-      {t : List TraceItem} {v : Visit} {u : Course (List View)} → Walk B inside s k q t v u → Grown s.world u.world
+  walk-grows : (B : Beginnings) (inside : Insides) (g : Grow B) {s : WalkState (List View)} {k : ℕ} {q : Query}
+      {t : List TraceItem} {v : Visit} {u : WalkState (List View)} → Walk B inside s k q t v u → Grown s.world u.world
   walk-grows B inside g (refused {s = s} {k = k} {q = q} {w = w} b) = g.grows s.world k q _ w b
   walk-grows B inside g (repeat {s = s} {k = k} {q = q} {w = w} b) = g.grows s.world k q _ w b
   walk-grows B inside g (asking {s = s} {k = k} {q = q} {start = start} {w = w} {m = m} b o steps en) =
       subst (Grown s.world) (sym en.world)
       (grown-on s.world w m.world (g.grows s.world k q start w b) (steps-grow B inside g steps))
 
-  pub steps-grow : (B : Beginnings) (inside : Insides) (g : Grow B) {s : Course (List View)} {l : Local}
-      {answers : List StepAnswer} {t : List TraceItem} {all : List StepAnswer} {u : Course (List View)}
+  pub steps-grow : (B : Beginnings) (inside : Insides) (g : Grow B) {s : WalkState (List View)} {l : Local}
+      {answers : List StepAnswer} {t : List TraceItem} {all : List StepAnswer} {u : WalkState (List View)}
       → Steps B inside s l answers t all u → Grown s.world u.world
   steps-grow B inside g (done {s = s} e) = unmoved s.world
   steps-grow B inside g (asked {s = s} {m = m} {u = u} step steps) =
       grown-on s.world m.world u.world (step-grows B inside g step) (steps-grow B inside g steps)
 
-  step-grows : (B : Beginnings) (inside : Insides) (g : Grow B) {s : Course (List View)} {question : Next}
-      {t : List TraceItem} {r : StepAnswer} {u : Course (List View)} → Step B inside s question t r u
+  step-grows : (B : Beginnings) (inside : Insides) (g : Grow B) {s : WalkState (List View)} {question : Next}
+      {t : List TraceItem} {r : StepAnswer} {u : WalkState (List View)} → Step B inside s question t r u
       → Grown s.world u.world
   step-grows B inside g (visited i walk) = walk-grows B inside g walk
   step-grows B inside g (outside {s = s} i small) = unmoved s.world
-  step-grows B inside g (unanswered {s = s} i f) = unmoved s.world
+  step-grows B inside g (no_memory_with {s = s} i f) = unmoved s.world
   step-grows B inside g (evaluated {s = s} i) = unmoved s.world
   step-grows B inside g (unevaluated {s = s} i f) = unmoved s.world
   step-grows B inside g (unreachable {s = s} i) = unmoved s.world

@@ -4,11 +4,11 @@ use Rattle.std.proofs.Common.{ap, subst, ◌∙◌, arith, slice_get}
 use Rattle.std.specs.Option.{option_or}
 use Rattle.td_cdr.specs.Marks.{Marks}
 use Rattle.td_changes.specs.Histories.{at}
-use Rattle.td_codes.specs.declared.reference.Ior.{Ior}
+use Rattle.td_typecode.specs.declared.reference.Ior.{Ior}
 use Rattle.td_fed.proofs.Members.{Beginnings, Insides}
-use Rattle.td_places.specs.Targets.{inside_group}
+use Rattle.td_targets.specs.Targets.{inside_group}
 use Rattle.td_fed_laws.specs.Traces.{first_point, first_searched, hops_in, searched_at}
-use Rattle.td_fed.specs.Visiting.{Begins}
+use Rattle.td_fed.specs.Visiting.{BeginsVisit}
 use Rattle.td_fed_laws.specs.WalkLaws.{WalksStayWithinTheirHops}
 use Rattle.td_fed_laws.proofs.Alone.{AreKnown, IsTaken, PathSeen, known}
 use Rattle.td_fed_laws.proofs.Carried.{Keeps, Says, hop_count, path-keeps, says, search-hops}
@@ -30,9 +30,9 @@ use Rattle.td_walk.specs.declared.answer.StepAnswer.{StepAnswer}
 use Rattle.td_walk.specs.declared.trace.TraceItem.{TraceItem}
 use Rattle.td_walk.specs.declared.trace.TraceItem.TheVariants as item
 use Rattle.td_walk.specs.declared.trace.Visit.{Visit}
-use Rattle.td_walk_laws.specs.Walks.{Course, Opens, Start, Step, Steps, Walk, with_world}
-use Rattle.td_walk_laws.specs.Walks.{asked, asking, done, evaluated, outside, passing, refused, repeat, searching}
-use Rattle.td_walk_laws.specs.Walks.{unanswered, unevaluated, unreachable, visited}
+use Rattle.td_query_walk.specs.Walks.{WalkState, OpensWith, Start, Step, Steps, Walk, with_world}
+use Rattle.td_query_walk.specs.Walks.{asked, asking, done, evaluated, outside, passing, refused, repeat, searching}
+use Rattle.td_query_walk.specs.Walks.{no_memory_with, unevaluated, unreachable, visited}
 
 -- the trader that a search was made at is seen so behind the walk
 pub record FoundAt (u : List View) (k : ℕ) (q : Query) (l : Local) : Type 0 where
@@ -45,7 +45,7 @@ data Heads (B : Beginnings) (inside : Insides) (u : List View) : Query → List 
   turned_away : {q : Query} {k point : ℕ} → Heads B inside u q (item.Refused k point ∷ [])
   known_here : {q : Query} {k point mark : ℕ} → Heads B inside u q (item.Repeat k point mark ∷ [])
   searched_here : {q : Query} {k : ℕ} {l : Local} {t : List TraceItem} {answers : List StepAnswer}
-      (s m : Course (List View)) → FoundAt u k q l → Steps B inside s l [] t answers m
+      (s m : WalkState (List View)) → FoundAt u k q l → Steps B inside s l [] t answers m
       → Heads B inside u q (item.Search k l.point l.mark ∷ t ++ item.Leave ∷ [])
   led_on : {q sub : Query} {k point : ℕ} {t : List TraceItem} → IsTaken q → Keeps q sub → Heads B inside u sub t
       → Heads B inside u q (item.Path k point ∷ t ++ item.Leave ∷ [])
@@ -68,17 +68,17 @@ data HeadsBySteps (B : Beginnings) (inside : Insides) (u : List View) (l : Local
   by_first : {t ts : List TraceItem} (r : StepAnswer) (m : List View) → HeadsByStep B inside m (next_of l answers) t
       → (next_of l (answers ++ r ∷ []) ≡ Done → IsOver u m ts) → HeadsBySteps B inside u l answers (t ++ ts)
 
-no-step : (B : Beginnings) (inside : Insides) {s : Course (List View)} {question : Next} {t : List TraceItem}
-    {r : StepAnswer} {u : Course (List View)} → Step B inside s question t r u → question ≡ Done → ⊥
+no-step : (B : Beginnings) (inside : Insides) {s : WalkState (List View)} {question : Next} {t : List TraceItem}
+    {r : StepAnswer} {u : WalkState (List View)} → Step B inside s question t r u → question ≡ Done → ⊥
 no-step B inside (visited i walk) e = cc
 no-step B inside (outside i small) e = cc
-no-step B inside (unanswered i f) e = cc
+no-step B inside (no_memory_with i f) e = cc
 no-step B inside (evaluated i) e = cc
 no-step B inside (unevaluated i f) e = cc
 no-step B inside (unreachable i) e = cc
 
-over : (B : Beginnings) (inside : Insides) {s : Course (List View)} {l : Local} {answers : List StepAnswer}
-    {t : List TraceItem} {all : List StepAnswer} {u : Course (List View)} → Steps B inside s l answers t all u
+over : (B : Beginnings) (inside : Insides) {s : WalkState (List View)} {l : Local} {answers : List StepAnswer}
+    {t : List TraceItem} {all : List StepAnswer} {u : WalkState (List View)} → Steps B inside s l answers t all u
     → next_of l answers ≡ Done → IsOver u.world s.world t
 over B inside (done e) last = record { none = refl; world = refl }
 over B inside (asked step steps) last = absurd (no-step B inside step last)
@@ -102,9 +102,9 @@ module _ (B : Beginnings) (inside : Insides) (u : List View) (k : ℕ) (q : Quer
       subst (λ (y : List TraceItem). Heads B inside u q (item.Path k point ∷ y ++ item.Leave ∷ [])) all
       (by-step point m end.world step refl)
 
-by-opening : (B : Beginnings) (inside : Insides) (known : AreKnown B) (g : Grow B) (s m u : Course (List View)) (k : ℕ)
+by-opening : (B : Beginnings) (inside : Insides) (known : AreKnown B) (g : Grow B) (s m u : WalkState (List View)) (k : ℕ)
     (q : Query) (l : Local) (x : List View) (t : List TraceItem) (answers : List StepAnswer) {start : Start}
-    {head : TraceItem} → Opens k l start head → B s.world k q start x
+    {head : TraceItem} → OpensWith k l start head → B s.world k q start x
     → Steps B inside (with_world s x) l [] t answers m → u.world ≡ m.world → HeadsBySteps B inside m.world l [] t
     → Heads B inside u.world q (head ∷ t ++ item.Leave ∷ [])
 by-opening B inside known g s m u k q l x t answers searching b steps same heads =
@@ -120,8 +120,8 @@ by-opening B inside known g s m u k q l x t answers passing b steps same heads =
     (by-steps B inside m.world k q l (known.paths s.world k q l x b) l.point heads)
 
 mutual
-  walk-heads : (B : Beginnings) (inside : Insides) (known : AreKnown B) (g : Grow B) {s : Course (List View)} {k : ℕ}
-      {q : Query} {t : List TraceItem} {v : Visit} {u : Course (List View)} → Walk B inside s k q t v u
+  walk-heads : (B : Beginnings) (inside : Insides) (known : AreKnown B) (g : Grow B) {s : WalkState (List View)} {k : ℕ}
+      {q : Query} {t : List TraceItem} {v : Visit} {u : WalkState (List View)} → Walk B inside s k q t v u
       → Heads B inside u.world q t
   walk-heads B inside known g (refused b) = turned_away
   walk-heads B inside known g (repeat b) = known_here
@@ -129,19 +129,19 @@ mutual
       {u = u} b o steps en) =
       by-opening B inside known g s m u k q l w t answers o b steps en.world (steps-head B inside known g steps)
 
-  steps-head : (B : Beginnings) (inside : Insides) (known : AreKnown B) (g : Grow B) {s : Course (List View)}
-      {l : Local} {answers : List StepAnswer} {t : List TraceItem} {all : List StepAnswer} {u : Course (List View)}
+  steps-head : (B : Beginnings) (inside : Insides) (known : AreKnown B) (g : Grow B) {s : WalkState (List View)}
+      {l : Local} {answers : List StepAnswer} {t : List TraceItem} {all : List StepAnswer} {u : WalkState (List View)}
       → Steps B inside s l answers t all u → HeadsBySteps B inside u.world l answers t
   steps-head B inside known g (done e) = by_none
   steps-head B inside known g (asked {r = r} {m = m} step steps) =
       by_first r m.world (step-heads B inside known g step) (over B inside steps)
 
-  step-heads : (B : Beginnings) (inside : Insides) (known : AreKnown B) (g : Grow B) {s : Course (List View)}
-      {question : Next} {t : List TraceItem} {r : StepAnswer} {u : Course (List View)}
+  step-heads : (B : Beginnings) (inside : Insides) (known : AreKnown B) (g : Grow B) {s : WalkState (List View)}
+      {question : Next} {t : List TraceItem} {r : StepAnswer} {u : WalkState (List View)}
       → Step B inside s question t r u → HeadsByStep B inside u.world question t
   step-heads B inside known g (visited i walk) = came (walk-heads B inside known g walk)
   step-heads B inside known g (outside i small) = went peer_answered
-  step-heads B inside known g (unanswered i f) = went peer_failed
+  step-heads B inside known g (no_memory_with i f) = went peer_failed
   step-heads B inside known g (evaluated i) = went peer_valued
   step-heads B inside known g (unevaluated i f) = went peer_failed
   step-heads B inside known g (unreachable i) = went not_reached
@@ -213,7 +213,7 @@ heads-within B inside known u o j p z is (led_aside {k = k} {point = n} {t = t} 
 pub stay-within : (others : List Accepted → Type 0) (later : Marks → Marks → Type 0)
     → WalksStayWithinTheirHops others later
 stay-within others later home s u k q t v store walk is before rest trader point mark split =
-    let B = Begins others later in
+    let B = BeginsVisit others later in
     let inside = inside_group home in
     let o = (parts_of q).stated.hops in
     let all : Within (hops_at (at is.view.opening is.view.history is.point) o) [] t =

@@ -2,11 +2,11 @@
 use Rattle.std.proofs.Common.{◌≡◌, ℕ, ◌+◌, ◌-◌, ◌<◌, ◌≤◌, List, [], ◌∷◌, ◌++◌, length, Some, None, refl, sym}
 use Rattle.std.proofs.Common.{ap, subst, ◌∙◌, arith, le_refl}
 use Rattle.td_cdr.specs.Marks.{Marks}
-use Rattle.td_codes.specs.declared.reference.Ior.{Ior}
+use Rattle.td_typecode.specs.declared.reference.Ior.{Ior}
 use Rattle.td_fed.proofs.Members.{Beginnings, Insides}
-use Rattle.td_places.specs.Targets.{inside_group}
-use Rattle.td_fed_laws.specs.Traces.{hops_in, waiting, waiting_after}
-use Rattle.td_fed.specs.Visiting.{Begins}
+use Rattle.td_targets.specs.Targets.{inside_group}
+use Rattle.td_fed_laws.specs.Traces.{hops_in, waiting_items, waiting_after}
+use Rattle.td_fed.specs.Visiting.{BeginsVisit}
 use Rattle.td_fed_laws.specs.WalkLaws.{VisitsEnd, WalksStayWithinStatedHops}
 use Rattle.td_fed_laws.proofs.Alone.{AreKnown, IsTaken, PathSeen, known}
 use Rattle.td_fed_laws.proofs.Carried.{Keeps, MayGo, hop_count, path-keeps, says, search-fewer}
@@ -23,9 +23,9 @@ use Rattle.td_walk.specs.declared.answer.StepAnswer.{StepAnswer}
 use Rattle.td_walk.specs.declared.trace.TraceItem.{TraceItem}
 use Rattle.td_walk.specs.declared.trace.TraceItem.TheVariants as item
 use Rattle.td_walk.specs.declared.trace.Visit.{Visit}
-use Rattle.td_walk_laws.specs.Walks.{Course, Opens, Start, Step, Steps, Walk}
-use Rattle.td_walk_laws.specs.Walks.{asked, asking, done, evaluated, outside, passing, refused, repeat, searching}
-use Rattle.td_walk_laws.specs.Walks.{unanswered, unevaluated, unreachable, visited}
+use Rattle.td_query_walk.specs.Walks.{WalkState, OpensWith, Start, Step, Steps, Walk}
+use Rattle.td_query_walk.specs.Walks.{asked, asking, done, evaluated, outside, passing, refused, repeat, searching}
+use Rattle.td_query_walk.specs.Walks.{no_memory_with, unevaluated, unreachable, visited}
 
 -- ---- items one after the other
 
@@ -38,12 +38,12 @@ abbrev pub Within : (hops : ℕ) → List TraceItem → List TraceItem → Type 
 Within hops visits [] = Unit {0}
 Within hops visits (i ∷ is) = IsNear hops visits i × Within hops (waiting_after visits i) is
 
-waiting-append : (t ts visits : List TraceItem) → waiting visits (t ++ ts) ≡ waiting (waiting visits t) ts
+waiting-append : (t ts visits : List TraceItem) → waiting_items visits (t ++ ts) ≡ waiting_items (waiting_items visits t) ts
 waiting-append [] ts visits = refl
 waiting-append (i ∷ t) ts visits = waiting-append t ts (waiting_after visits i)
 
 within-append : (hops : ℕ) (t ts visits : List TraceItem) → Within hops visits t
-    → Within hops (waiting visits t) ts → Within hops visits (t ++ ts)
+    → Within hops (waiting_items visits t) ts → Within hops visits (t ++ ts)
 within-append hops [] ts visits a b = b
 within-append hops (i ∷ t) ts visits a b = (a.0, within-append hops t ts (waiting_after visits i) a.1 b)
 
@@ -53,7 +53,7 @@ pub within-left : (hops : ℕ) (t visits : List TraceItem) → Within hops visit
 within-left hops t visits a = within-append hops t (item.Leave ∷ []) visits a (tt, tt)
 
 pub within-at : (hops : ℕ) (before rest visits : List TraceItem) (trader point mark : ℕ)
-    → Within hops visits (before ++ item.Search trader point mark ∷ rest) → hops_in (waiting visits before) ≤ hops
+    → Within hops visits (before ++ item.Search trader point mark ∷ rest) → hops_in (waiting_items visits before) ≤ hops
 within-at hops [] rest visits trader point mark h = h.0
 within-at hops (i ∷ before) rest visits trader point mark h =
     within-at hops before rest (waiting_after visits i) trader point mark h.1
@@ -61,42 +61,42 @@ within-at hops (i ∷ before) rest visits trader point mark h =
 -- ---- each visit that begins ends
 
 opened-even : (k : ℕ) (l : Local) (t visits : List TraceItem) {start : Start} {head : TraceItem}
-    → Opens k l start head → ((xs : List TraceItem) → waiting xs t ≡ xs)
-    → waiting visits (head ∷ t ++ item.Leave ∷ []) ≡ visits
+    → OpensWith k l start head → ((xs : List TraceItem) → waiting_items xs t ≡ xs)
+    → waiting_items visits (head ∷ t ++ item.Leave ∷ []) ≡ visits
 opened-even k l t visits searching even =
     waiting-append t (item.Leave ∷ []) (item.Search k l.point l.mark ∷ visits)
-    ∙ ap (λ (x : List TraceItem). waiting x (item.Leave ∷ [])) (even (item.Search k l.point l.mark ∷ visits))
+    ∙ ap (λ (x : List TraceItem). waiting_items x (item.Leave ∷ [])) (even (item.Search k l.point l.mark ∷ visits))
 opened-even k l t visits passing even =
     waiting-append t (item.Leave ∷ []) (item.Path k l.point ∷ visits)
-    ∙ ap (λ (x : List TraceItem). waiting x (item.Leave ∷ [])) (even (item.Path k l.point ∷ visits))
+    ∙ ap (λ (x : List TraceItem). waiting_items x (item.Leave ∷ [])) (even (item.Path k l.point ∷ visits))
 
 mutual
-  walk-even : (B : Beginnings) (inside : Insides) {s : Course (List View)} {k : ℕ} {q : Query} {t : List TraceItem}
+  walk-even : (B : Beginnings) (inside : Insides) {s : WalkState (List View)} {k : ℕ} {q : Query} {t : List TraceItem}
       {v : Visit}
-      {u : Course (List View)} → Walk B inside s k q t v u
-      → (visits : List TraceItem) → waiting visits t ≡ visits
+      {u : WalkState (List View)} → Walk B inside s k q t v u
+      → (visits : List TraceItem) → waiting_items visits t ≡ visits
   walk-even B inside (refused b) visits = refl
   walk-even B inside (repeat b) visits = refl
   walk-even B inside (asking {k = k} {l = l} {t = t} b o steps en) visits =
       opened-even k l t visits o (λ xs. steps-even B inside steps xs)
 
-  steps-even : (B : Beginnings) (inside : Insides) {s : Course (List View)} {l : Local} {answers : List StepAnswer}
+  steps-even : (B : Beginnings) (inside : Insides) {s : WalkState (List View)} {l : Local} {answers : List StepAnswer}
       {t : List TraceItem}
-      {all : List StepAnswer} {u : Course (List View)}
+      {all : List StepAnswer} {u : WalkState (List View)}
       → Steps B inside s l answers t all u → (visits : List TraceItem)
-      → waiting visits t ≡ visits
+      → waiting_items visits t ≡ visits
   steps-even B inside (done e) visits = refl
   steps-even B inside (asked {t = t} {ts = ts} step steps) visits =
       waiting-append t ts visits
-      ∙ (ap (λ (x : List TraceItem). waiting x ts) (step-even B inside step visits) ∙ steps-even B inside steps visits)
+      ∙ (ap (λ (x : List TraceItem). waiting_items x ts) (step-even B inside step visits) ∙ steps-even B inside steps visits)
 
-  step-even : (B : Beginnings) (inside : Insides) {s : Course (List View)} {question : Next} {t : List TraceItem}
+  step-even : (B : Beginnings) (inside : Insides) {s : WalkState (List View)} {question : Next} {t : List TraceItem}
       {r : StepAnswer}
-      {u : Course (List View)} → Step B inside s question t r u
-      → (visits : List TraceItem) → waiting visits t ≡ visits
+      {u : WalkState (List View)} → Step B inside s question t r u
+      → (visits : List TraceItem) → waiting_items visits t ≡ visits
   step-even B inside (visited i walk) visits = walk-even B inside walk visits
   step-even B inside (outside i small) visits = refl
-  step-even B inside (unanswered i f) visits = refl
+  step-even B inside (no_memory_with i f) visits = refl
   step-even B inside (evaluated i) visits = refl
   step-even B inside (unevaluated i f) visits = refl
   step-even B inside (unreachable i) visits = refl
@@ -153,7 +153,7 @@ path-within hops visits k point q l b f answers target sub e =
 
 opened-within : (B : Beginnings) (known : AreKnown B) (hops : ℕ) (w : List View) (k : ℕ) (q : Query) (l : Local)
     (x : List View) (t visits : List TraceItem)
-    {start : Start} {head : TraceItem} → Opens k l start head → B w k q start x
+    {start : Start} {head : TraceItem} → OpensWith k l start head → B w k q start x
     → Fits hops visits q → ((xs : List TraceItem) → PassesWithin hops xs l → Within hops xs t)
     → Within hops visits (head ∷ t ++ item.Leave ∷ [])
 opened-within B known hops w k q l x t visits searching b f steps =
@@ -173,18 +173,18 @@ opened-within B known hops w k q l x t visits passing b f steps =
     )
 
 mutual
-  walk-within : (B : Beginnings) (inside : Insides) (known : AreKnown B) (hops : ℕ) {s : Course (List View)}
+  walk-within : (B : Beginnings) (inside : Insides) (known : AreKnown B) (hops : ℕ) {s : WalkState (List View)}
       {k : ℕ} {q : Query} {t : List TraceItem}
-      {v : Visit} {u : Course (List View)} → Walk B inside s k q t v u
+      {v : Visit} {u : WalkState (List View)} → Walk B inside s k q t v u
       → (visits : List TraceItem) → Fits hops visits q → Within hops visits t
   walk-within B inside known hops (refused b) visits f = (tt, tt)
   walk-within B inside known hops (repeat b) visits f = (tt, tt)
   walk-within B inside known hops (asking {s = s} {k = k} {q = q} {w = w} {l = l} {t = t} b o steps en) visits f =
       opened-within B known hops s.world k q l w t visits o b f (λ xs p. steps-within B inside known hops steps xs p)
 
-  pub steps-within : (B : Beginnings) (inside : Insides) (known : AreKnown B) (hops : ℕ) {s : Course (List View)}
+  pub steps-within : (B : Beginnings) (inside : Insides) (known : AreKnown B) (hops : ℕ) {s : WalkState (List View)}
       {l : Local} {answers : List StepAnswer}
-      {t : List TraceItem} {all : List StepAnswer} {u : Course (List View)}
+      {t : List TraceItem} {all : List StepAnswer} {u : WalkState (List View)}
       → Steps B inside s l answers t all u → (visits : List TraceItem)
       → PassesWithin hops visits l → Within hops visits t
   steps-within B inside known hops (done e) visits p = tt
@@ -194,15 +194,15 @@ mutual
       (subst (λ (x : List TraceItem). Within hops x ts) (sym (step-even B inside step visits))
       (steps-within B inside known hops steps visits p))
 
-  step-within : (B : Beginnings) (inside : Insides) (known : AreKnown B) (hops : ℕ) {s : Course (List View)}
+  step-within : (B : Beginnings) (inside : Insides) (known : AreKnown B) (hops : ℕ) {s : WalkState (List View)}
       {question : Next} {t : List TraceItem}
-      {r : StepAnswer} {u : Course (List View)}
+      {r : StepAnswer} {u : WalkState (List View)}
       → Step B inside s question t r u → (visits : List TraceItem)
       → ((target : Ior) (sub : Query) → question ≡ Forward target sub → Fits hops visits sub) → Within hops visits t
   step-within B inside known hops (visited {target = target} {q = q} i walk) visits p =
       walk-within B inside known hops walk visits (p target q refl)
   step-within B inside known hops (outside i small) visits p = (tt, tt)
-  step-within B inside known hops (unanswered i f) visits p = (tt, tt)
+  step-within B inside known hops (no_memory_with i f) visits p = (tt, tt)
   step-within B inside known hops (evaluated i) visits p = (tt, tt)
   step-within B inside known hops (unevaluated i f) visits p = (tt, tt)
   step-within B inside known hops (unreachable i) visits p = (tt, tt)
@@ -216,8 +216,8 @@ stay-within-stated others later home s u k q t v n walk states before rest trade
     let fits : Fits n [] q =
     record { most = n; may = λ x e. (n, says hop_count q (Some n) states x e, le_refl n); fits = none } in
     let all : Within n [] t =
-    walk-within (Begins others later) (inside_group home) (known others later) n walk [] fits in
+    walk-within (BeginsVisit others later) (inside_group home) (known others later) n walk [] fits in
     within-at n before rest [] trader point mark (subst (λ (x : List TraceItem). Within n [] x) split all)
 
 pub visits-end : (others : List Accepted → Type 0) (later : Marks → Marks → Type 0) → VisitsEnd others later
-visits-end others later home s u k q t v walk = walk-even (Begins others later) (inside_group home) walk []
+visits-end others later home s u k q t v walk = walk-even (BeginsVisit others later) (inside_group home) walk []

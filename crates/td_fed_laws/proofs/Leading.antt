@@ -3,23 +3,23 @@ use Rattle.std.proofs.Common.{◌≡◌, ℕ, ◌≤◌, List, [], ◌∷◌, �
 use Rattle.std.proofs.Common.{subst, ◌∙◌, le_refl, slice_get, option_and_then}
 use Rattle.std.specs.Option.{option_or}
 use Rattle.td_cdr.specs.Marks.{remembered}
-use Rattle.td_codes.specs.declared.code.Any.{Any}
-use Rattle.td_codes.specs.declared.reference.Ior.{Ior}
+use Rattle.td_typecode.specs.declared.code.Any.{Any}
+use Rattle.td_typecode.specs.declared.reference.Ior.{Ior}
 use Rattle.td_fed.proofs.Members.{Insides}
-use Rattle.td_fed_laws.specs.Fresh.{IsFresh, made_so, stated_so}
+use Rattle.td_fed_laws.specs.Fresh.{IsUnknownIdentifier, made_so, stated_so}
 use Rattle.td_fed_laws.specs.Traces.{first_searched, searched_by}
-use Rattle.td_fed.specs.Visiting.{Begins}
+use Rattle.td_fed.specs.Visiting.{BeginsVisit}
 use Rattle.td_fed_laws.proofs.Alone.{IsTaken, PathBegun, path-begun, repeat-begun, search-begun}
 use Rattle.td_fed_laws.proofs.Carried.{Keeps, Says, path-keeps, request, says}
 use Rattle.td_fed_laws.proofs.Noting.{IsRight, IsRightFromNone, right-append}
-use Rattle.td_fed_laws.proofs.Recalling.{told, told-none}
+use Rattle.td_fed_laws.proofs.Recalling.{content, content-none}
 use Rattle.td_fed_laws.proofs.Searching.{search-goes, search-passes, steps-go, walk-goes}
 use Rattle.td_ops.specs.declared.call.Query.{Query}
 use Rattle.td_store.specs.declared.local.Local.{Local}
 use Rattle.td_store.specs.declared.record.LinkRecord.{LinkRecord}
-use Rattle.td_trader.specs.Beginning.{identified, searched_under}
+use Rattle.td_trader.specs.Beginning.{query_identifier, searched_under}
 use Rattle.td_trader.specs.Queries.{parts_of}
-use Rattle.td_trader.specs.Solos.{nothing, unchanged}
+use Rattle.td_trader.specs.Solos.{no_changes, same_marks}
 use Rattle.td_trader.specs.Worlds.{View, store_seen}
 use Rattle.td_walk.specs.Visits.{next_of}
 use Rattle.td_walk.specs.declared.answer.Next.{Next}
@@ -30,11 +30,11 @@ use Rattle.td_walk.specs.declared.fault.PeerFault.{PeerFault}
 use Rattle.td_walk.specs.declared.trace.TraceItem.{TraceItem}
 use Rattle.td_walk.specs.declared.trace.TraceItem.TheVariants as item
 use Rattle.td_walk.specs.declared.trace.Visit.{Visit}
-use Rattle.td_walk_laws.specs.Reach.{turns_by}
-use Rattle.td_walk_laws.specs.Walks.{Course, Opens, Search, Start, Step, Steps, Walk, with_world}
-use Rattle.td_walk_laws.specs.Walks.{asked, asking, done, evaluated, outside, passing, refused, repeat, searching}
-use Rattle.td_walk_laws.specs.Walks.{unanswered, unevaluated, unreachable, visited}
-use Rattle.td_walk_laws.proofs.Spending.{ends}
+use Rattle.td_query_walk.specs.Reach.{turns_by}
+use Rattle.td_query_walk.specs.Walks.{WalkState, OpensWith, Search, Start, Step, Steps, Walk, with_world}
+use Rattle.td_query_walk.specs.Walks.{asked, asking, done, evaluated, outside, passing, refused, repeat, searching}
+use Rattle.td_query_walk.specs.Walks.{no_memory_with, unevaluated, unreachable, visited}
+use Rattle.td_query_walk.proofs.Spending.{ends}
 
 -- a step that goes to no trader of the group
 pub data Aside : List TraceItem → Type 0 where
@@ -48,9 +48,9 @@ pub data Leads (inside : Insides) (w : List View) : Query → List TraceItem →
   turned_away : {q : Query} {k point : ℕ} → Leads inside w q (item.Refused k point ∷ [])
   known_here : {q : Query} {k point mark : ℕ} {id : List ℕ} → IsTaken q → (parts_of q).stated.request_id ≡ Some id
       → Leads inside w q (item.Repeat k point mark ∷ [])
-  searched_here : {q : Query} {k : ℕ} {l : Local} {x : List View} {m : Course (List View)} {t : List TraceItem}
-      {answers : List StepAnswer} (s : Course (List View)) → Begins nothing unchanged w k q (Search l) x
-      → Steps (Begins nothing unchanged) inside (with_world s x) l [] t answers m
+  searched_here : {q : Query} {k : ℕ} {l : Local} {x : List View} {m : WalkState (List View)} {t : List TraceItem}
+      {answers : List StepAnswer} (s : WalkState (List View)) → BeginsVisit no_changes same_marks w k q (Search l) x
+      → Steps (BeginsVisit no_changes same_marks) inside (with_world s x) l [] t answers m
       → Leads inside w q (item.Search k l.point l.mark ∷ t ++ item.Leave ∷ [])
   led_on : {q sub : Query} {k point : ℕ} {t : List TraceItem} → IsTaken q → Keeps q sub → Leads inside w sub t
       → Leads inside w q (item.Path k point ∷ t ++ item.Leave ∷ [])
@@ -72,19 +72,19 @@ data LeadsBySteps (inside : Insides) (w : List View) (l : Local) (answers : List
         → (next_of l (answers ++ r ∷ []) ≡ Done → ts ≡ []) → LeadsBySteps inside w l answers (t ++ ts)
 
 -- where no question is left none is asked
-pub no-step : (inside : Insides) {s : Course (List View)} {question : Next} {t : List TraceItem} {r : StepAnswer}
-    {u : Course (List View)} → Step (Begins nothing unchanged) inside s question t r u
+pub no-step : (inside : Insides) {s : WalkState (List View)} {question : Next} {t : List TraceItem} {r : StepAnswer}
+    {u : WalkState (List View)} → Step (BeginsVisit no_changes same_marks) inside s question t r u
     → question ≡ Done → ⊥
 no-step inside (visited i walk) e = cc
 no-step inside (outside i small) e = cc
-no-step inside (unanswered i f) e = cc
+no-step inside (no_memory_with i f) e = cc
 no-step inside (evaluated i) e = cc
 no-step inside (unevaluated i f) e = cc
 no-step inside (unreachable i) e = cc
 
-no-steps : (inside : Insides) {s : Course (List View)} {l : Local} {answers : List StepAnswer} {t : List TraceItem}
-    {all : List StepAnswer} {u : Course (List View)}
-    → Steps (Begins nothing unchanged) inside s l answers t all u → next_of l answers ≡ Done → t ≡ []
+no-steps : (inside : Insides) {s : WalkState (List View)} {l : Local} {answers : List StepAnswer} {t : List TraceItem}
+    {all : List StepAnswer} {u : WalkState (List View)}
+    → Steps (BeginsVisit no_changes same_marks) inside s l answers t all u → next_of l answers ≡ Done → t ≡ []
 no-steps inside (done e) over = refl
 no-steps inside (asked step steps) over = absurd (no-step inside step over)
 
@@ -112,10 +112,10 @@ module _ (inside : Insides) (w : List View) (k : ℕ) (q : Query) (l : Local) (x
         subst (λ (y : List TraceItem). Leads inside w q (item.Path k point ∷ y ++ item.Leave ∷ [])) all
         (by-step point step refl)
 
-by-opening : (inside : Insides) (s m : Course (List View)) (k : ℕ) (q : Query) (l : Local) (x : List View)
-    (t : List TraceItem) (answers : List StepAnswer) {start : Start} {head : TraceItem} → Opens k l start head
-    → Begins nothing unchanged s.world k q start x
-    → Steps (Begins nothing unchanged) inside (with_world s x) l [] t answers m
+by-opening : (inside : Insides) (s m : WalkState (List View)) (k : ℕ) (q : Query) (l : Local) (x : List View)
+    (t : List TraceItem) (answers : List StepAnswer) {start : Start} {head : TraceItem} → OpensWith k l start head
+    → BeginsVisit no_changes same_marks s.world k q start x
+    → Steps (BeginsVisit no_changes same_marks) inside (with_world s x) l [] t answers m
     → LeadsBySteps inside x l [] t → Leads inside s.world q (head ∷ t ++ item.Leave ∷ [])
 by-opening inside s m k q l x t answers searching b steps leads = searched_here s b steps
 by-opening inside s m k q l x t answers passing b steps leads =
@@ -128,8 +128,8 @@ stated-there f None n e = absurd (let bad : ⊥ = cc in bad)
 stated-there f (Some id) n e = (id, refl)
 
 mutual
-  pub walk-leads : (inside : Insides) {s : Course (List View)} {k : ℕ} {q : Query} {t : List TraceItem} {v : Visit}
-      {u : Course (List View)} → Walk (Begins nothing unchanged) inside s k q t v u
+  pub walk-leads : (inside : Insides) {s : WalkState (List View)} {k : ℕ} {q : Query} {t : List TraceItem} {v : Visit}
+      {u : WalkState (List View)} → Walk (BeginsVisit no_changes same_marks) inside s k q t v u
       → Leads inside s.world q t
   walk-leads inside (refused b) = turned_away
   walk-leads inside (repeat {s = s} {k = k} {q = q} {point = p} {mark = n} {w = w} b) =
@@ -139,19 +139,19 @@ mutual
   walk-leads inside (asking {s = s} {k = k} {q = q} {w = w} {l = l} {t = t} {answers = answers} {m = m} b o steps en) =
       by-opening inside s m k q l w t answers o b steps (steps-lead inside steps)
 
-  steps-lead : (inside : Insides) {s : Course (List View)} {l : Local} {answers : List StepAnswer} {t : List TraceItem}
-      {all : List StepAnswer} {u : Course (List View)}
-      → Steps (Begins nothing unchanged) inside s l answers t all u
+  steps-lead : (inside : Insides) {s : WalkState (List View)} {l : Local} {answers : List StepAnswer} {t : List TraceItem}
+      {all : List StepAnswer} {u : WalkState (List View)}
+      → Steps (BeginsVisit no_changes same_marks) inside s l answers t all u
       → LeadsBySteps inside s.world l answers t
   steps-lead inside (done e) = by_none
   steps-lead inside (asked {r = r} step steps) = by_first r (step-leads inside step) (no-steps inside steps)
 
-  step-leads : (inside : Insides) {s : Course (List View)} {question : Next} {t : List TraceItem} {r : StepAnswer}
-      {u : Course (List View)} → Step (Begins nothing unchanged) inside s question t r u
+  step-leads : (inside : Insides) {s : WalkState (List View)} {question : Next} {t : List TraceItem} {r : StepAnswer}
+      {u : WalkState (List View)} → Step (BeginsVisit no_changes same_marks) inside s question t r u
       → LeadsByStep inside s.world question t
   step-leads inside (visited i walk) = came (walk-leads inside walk)
   step-leads inside (outside i small) = went peer_answered
-  step-leads inside (unanswered i f) = went peer_failed
+  step-leads inside (no_memory_with i f) = went peer_failed
   step-leads inside (evaluated i) = went peer_valued
   step-leads inside (unevaluated i f) = went peer_failed
   step-leads inside (unreachable i) = went not_reached
@@ -174,7 +174,7 @@ aside-right not_reached f = (tt, tt)
 abbrev IsNew : List View → List TraceItem → Type 0
 IsNew w t =
     (j : ℕ) (v : View) → first_searched t ≡ Some j → slice_get w j ≡ Some v → (k : ℕ)
-    → told (identified v.marks (store_seen v).attributes.request_id_stem None).identifier w k ≡ None
+    → content (query_identifier v.marks (store_seen v).attributes.request_id_stem None).identifier w k ≡ None
 
 -- a walk whose query states no identifier
 unstated-right : (inside : Insides) (w : List View) {q : Query} {t : List TraceItem} → Leads inside w q t
@@ -188,16 +188,16 @@ unstated-right inside w (searched_here {q = q} {k = k} {l = l} {x = x} {m = m} {
     let h = search-begun w k q l x b in
     let id = (searched_under (store_seen h.view) h.view.marks q).identifier in
     let none : (parts_of q).stated.request_id ≡ None = said (parts_of q).stated h.here.taken in
-    let made : (identified h.view.marks (store_seen h.view).attributes.request_id_stem None).identifier ≡ id =
+    let made : (query_identifier h.view.marks (store_seen h.view).attributes.request_id_stem None).identifier ≡ id =
     ap (λ (o : Option (List ℕ)).
-    (identified h.view.marks (store_seen h.view).attributes.request_id_stem o).identifier) (sym none) in
-    let fresh : (j : ℕ) → told id w j ≡ None =
-    λ j. subst (λ (i : List ℕ). told i w j ≡ None) made (new k h.view refl h.is j) in
+    (query_identifier h.view.marks (store_seen h.view).attributes.request_id_stem o).identifier) (sym none) in
+    let fresh : (j : ℕ) → content id w j ≡ None =
+    λ j. subst (λ (i : List ℕ). content i w j ≡ None) made (new k h.view refl h.is j) in
     let goes = steps-go inside id steps (search-passes id w k q l x h refl) in
     record {
-      notes = told id w;
+      notes = content id w;
       none = fresh;
-      right = (search-goes id w k q l x t (told id m.world) h refl (fresh k) goes).right;
+      right = (search-goes id w k q l x t (content id m.world) h refl (fresh k) goes).right;
     }
 unstated-right inside w (led_on {q = q} {t = t} taken keeps leads) said new =
     let none : (parts_of q).stated.request_id ≡ None = said (parts_of q).stated taken in
@@ -215,20 +215,20 @@ unstated-right inside w (led_aside {t = t} a) said new = record {
 }
 
 -- each walk whose identifier is fresh
-pub fresh-right : (inside : Insides) (s u : Course (List View)) (k : ℕ) (q : Query) (t : List TraceItem) (v : Visit)
-    → Walk (Begins nothing unchanged) inside s k q t v u → IsFresh s.world q t → IsRightFromNone t
+pub fresh-right : (inside : Insides) (s u : WalkState (List View)) (k : ℕ) (q : Query) (t : List TraceItem) (v : Visit)
+    → Walk (BeginsVisit no_changes same_marks) inside s k q t v u → IsUnknownIdentifier s.world q t → IsRightFromNone t
 fresh-right inside s u k q t v walk fresh = by-stated (parts_of q).stated.request_id refl
   where
     by-stated : (o : Option (List ℕ)) → (parts_of q).stated.request_id ≡ o → IsRightFromNone t
     by-stated (Some id) e = record {
-      notes = told id s.world;
-      none = λ j. told-none id s.world j (fresh id (stated_so e) j);
+      notes = content id s.world;
+      none = λ j. content-none id s.world j (fresh id (stated_so e) j);
       right = (walk-goes inside id walk (says request q (Some id) e)).right;
     }
     by-stated None e =
         unstated-right inside s.world (walk-leads inside walk) (says request q None e)
-        (λ j w first is i. subst (λ (x : List ℕ). told x s.world i ≡ None)
-        (ap (λ (o : Option (List ℕ)). (identified w.marks (store_seen w).attributes.request_id_stem o).identifier) e)
-        (told-none (searched_under (store_seen w) w.marks q).identifier s.world i
+        (λ j w first is i. subst (λ (x : List ℕ). content x s.world i ≡ None)
+        (ap (λ (o : Option (List ℕ)). (query_identifier w.marks (store_seen w).attributes.request_id_stem o).identifier) e)
+        (content-none (searched_under (store_seen w) w.marks q).identifier s.world i
         (fresh (searched_under (store_seen w) w.marks q).identifier
         (made_so e (record { trader = j; searched = first; is = is })) i)))

@@ -3,11 +3,11 @@ use Rattle.std.proofs.Common.{◌≡◌, ℕ, ◌+◌, ◌<◌, ◌≤◌, ◌�
 use Rattle.std.proofs.Common.{append_assoc, append-nil, length, Option, Some, None, refl, sym, ap, subst, ◌∙◌, arith}
 use Rattle.std.proofs.Common.{slice_get, slice_set, eqb-true}
 use Rattle.std.proofs.lemmas.Bool.{cases_lt, eqb-false}
-use Rattle.td_cdr.specs.Marks.{Holds, In, Later, Marks, entry_of, marked, remembered}
+use Rattle.td_cdr.specs.Marks.{RemembersAs, In, Later, Marks, entry_of, add_mark, remembered}
 use Rattle.td_cdr.proofs.Marking.{is_held, is_not_held, newest, no_other}
-use Rattle.td_codes.specs.declared.reference.Ior.{Ior}
+use Rattle.td_typecode.specs.declared.reference.Ior.{Ior}
 use Rattle.td_fed.proofs.Members.{Insides, get-set_other, get-set_same, same-view}
-use Rattle.td_fed.specs.Visiting.{Begins}
+use Rattle.td_fed.specs.Visiting.{BeginsVisit}
 use Rattle.td_fed_laws.specs.Arrivals.{Arrival, arrival, arrivals, arrivals_by, arrivals_in, identifier_of, sent}
 use Rattle.td_fed_laws.specs.Traces.{HasSearch, visited_by}
 use Rattle.td_fed_laws.proofs.Alone.{known, path-is, refused-is, repeat-here, repeat-is, search-here, search-is}
@@ -29,16 +29,16 @@ use Rattle.td_walk.specs.declared.answer.StepAnswer.{StepAnswer}
 use Rattle.td_walk.specs.declared.trace.TraceItem.{TraceItem}
 use Rattle.td_walk.specs.declared.trace.TraceItem.TheVariants as item
 use Rattle.td_walk.specs.declared.trace.Visit.{Visit}
-use Rattle.td_walk_laws.specs.Walks.{Course, Opens, Path, Refused, Repeat, Search, Start, Step, Steps, Walk}
-use Rattle.td_walk_laws.specs.Walks.{asked, asking, done, evaluated, outside, passing, refused, repeat, searching}
-use Rattle.td_walk_laws.specs.Walks.{unanswered, unevaluated, unreachable, visited}
+use Rattle.td_query_walk.specs.Walks.{WalkState, OpensWith, Path, Refused, Repeat, Search, Start, Step, Steps, Walk}
+use Rattle.td_query_walk.specs.Walks.{asked, asking, done, evaluated, outside, passing, refused, repeat, searching}
+use Rattle.td_query_walk.specs.Walks.{no_memory_with, unevaluated, unreachable, visited}
 
 -- ---- a mark
 
 -- the trader remembers the mark, or made too many since
 pub record IsOld (id : List ℕ) (m : Marks) (mark : ℕ) : Type 0 where
   pub most : mark ≤ m.count
-  pub there : m.count < mark + m.ring → Holds m id mark
+  pub there : m.count < mark + m.ring → RemembersAs m id mark
 
 old-later : (id : List ℕ) (a b : Marks) (mark : ℕ) → Later a b → IsOld id a mark → IsOld id b mark
 old-later id a b mark later h =
@@ -51,7 +51,7 @@ old-later id a b mark later h =
           (omega (arith, near, ring));
     }
 
-old-new : (id : List ℕ) (m : Marks) (counter : ℕ) → IsOld id (marked m id counter) (m.count + 1)
+old-new : (id : List ℕ) (m : Marks) (counter : ℕ) → IsOld id (add_mark m id counter) (m.count + 1)
 old-new id m counter = record { most = omega arith; there = λ near. newest m id counter }
 
 -- a new one is far from one that isn't remembered
@@ -65,7 +65,7 @@ far-from id m mark h none =
 
 -- and of one that is far no more is said behind it
 old-far : (id : List ℕ) (m : Marks) (counter mark : ℕ) → mark + m.ring < m.count + 1
-    → IsOld id (marked m id counter) mark
+    → IsOld id (add_mark m id counter) mark
 old-far id m counter mark far = record {
   most = omega (arith, far);
   there = λ near. absurd (let less : m.count + 1 < mark + m.ring = near in omega (arith, less, far));
@@ -98,7 +98,7 @@ module _ (id : List ℕ) (rings : ℕ → ℕ) (Quiet Still : Type 0) where
   pub record Stands (p : List TraceItem) (k : ℕ) (m : Marks) : Type 0 where
     pub ring_is : m.ring ≡ rings k
     pub old : (mark : ℕ) → HasSearch p k mark → IsOld id m mark
-    pub own : Quiet → (number : ℕ) → Holds m id number → HasSearch p k number
+    pub own : Quiet → (number : ℕ) → RemembersAs m id number → HasSearch p k number
     pub room : Still → 0 < m.ring
     pub last : Still → (mark : ℕ) → HasSearch p k mark → m.count ≡ mark
 
@@ -113,7 +113,7 @@ module _ (id : List ℕ) (rings : ℕ → ℕ) (Quiet Still : Type 0) where
   }
 
   stands-later : (p : List TraceItem) (k : ℕ) (a b : Marks) → Later a b → (Still → b.count ≡ a.count)
-      → (Quiet → (number : ℕ) → Holds b id number → Holds a id number) → Stands p k a → Stands p k b
+      → (Quiet → (number : ℕ) → RemembersAs b id number → RemembersAs a id number) → Stands p k a → Stands p k b
   stands-later p k a b on stays unmarked h = record {
     ring_is = on.ring ∙ h.ring_is;
     old = λ mark s. old-later id a b mark on (h.old mark s);
@@ -125,7 +125,7 @@ module _ (id : List ℕ) (rings : ℕ → ℕ) (Quiet Still : Type 0) where
   -- a search of the trader that is far from each one before
   stands-searched : (p : List TraceItem) (k point : ℕ) (m : Marks) (counter : ℕ)
       → ((mark : ℕ) → HasSearch p k mark → mark + m.ring < m.count + 1) → Stands p k m
-      → Stands (p ++ item.Search k point (m.count + 1) ∷ []) k (marked m id counter)
+      → Stands (p ++ item.Search k point (m.count + 1) ∷ []) k (add_mark m id counter)
   stands-searched p k point m counter far h = record {
     ring_is = h.ring_is;
     old =
@@ -152,14 +152,14 @@ module _ (id : List ℕ) (rings : ℕ → ℕ) (Quiet Still : Type 0) where
 
       old-by : (mark x : ℕ)
           → In (item.Search k x mark) p ⊎ In (item.Search k x mark) (item.Search k point (m.count + 1) ∷ [])
-          → IsOld id (marked m id counter) mark
+          → IsOld id (add_mark m id counter) mark
       old-by mark x (inl s) = old-far id m counter mark (far mark (record { point = x; there = s }))
       old-by mark x (inr (inl e)) =
           let same : m.count + 1 ≡ mark = cc in
-          subst (IsOld id (marked m id counter)) same (old-new id m counter)
+          subst (IsOld id (add_mark m id counter)) same (old-new id m counter)
       old-by mark x (inr (inr s)) = elim s [ ]
 
-      own-by : (n : ℕ) → Quiet → Holds m id n ⊎ ((id ≡ id) × (m.count + 1 ≡ n))
+      own-by : (n : ℕ) → Quiet → RemembersAs m id n ⊎ ((id ≡ id) × (m.count + 1 ≡ n))
           → HasSearch (p ++ item.Search k point (m.count + 1) ∷ []) k n
       own-by n quiet (inl held) = search-more p (item.Search k point (m.count + 1)) k n (h.own quiet n held)
       own-by n quiet (inr new) = record {
@@ -203,7 +203,7 @@ module _ (id : List ℕ) (rings : ℕ → ℕ) (Quiet Still : Type 0) where
     pub ring_is : a.seen.marks.ring ≡ rings k
     pub far : (m : ℕ) → HasSearch a.before k m → m + a.seen.marks.ring < mark
 
-  pub record Told (a : Arrival) : Type 0 where
+  pub record HasContent (a : Arrival) : Type 0 where
     pub under : (k : ℕ) → visited_by a.item ≡ Some k → identifier_of a ≡ id
     pub searched : (k point mark : ℕ) → a.item ≡ item.Search k point mark → IsSearched a k mark
     pub named : Quiet → (k point mark : ℕ) → a.item ≡ item.Repeat k point mark → HasSearch a.before k mark
@@ -213,11 +213,11 @@ module _ (id : List ℕ) (rings : ℕ → ℕ) (Quiet Still : Type 0) where
   -- others marked nothing under the identifier, where it is quiet
   abbrev pub AreUnmarked : List Arrival → Type 0
   AreUnmarked xs =
-      (a : Arrival) → In a xs → Quiet → (number : ℕ) → Holds a.seen.marks id number → Holds a.last.marks id number
+      (a : Arrival) → In a xs → Quiet → (number : ℕ) → RemembersAs a.seen.marks id number → RemembersAs a.last.marks id number
 
   -- one that is refused, or goes on along its path
-  pub told-aside : (a : Arrival) → visited_by a.item ≡ None → Told a
-  told-aside a none = record {
+  pub content-aside : (a : Arrival) → visited_by a.item ≡ None → HasContent a
+  content-aside a none = record {
     under = λ k e. absurd (neither k (sym none ∙ e));
     searched = λ k point mark e. absurd (neither k (sym none ∙ ap visited_by e));
     named = λ quiet k point mark e. absurd (neither k (sym none ∙ ap visited_by e));
@@ -230,44 +230,44 @@ module _ (id : List ℕ) (rings : ℕ → ℕ) (Quiet Still : Type 0) where
   -- ---- what a walk leaves
 
   pub record Marked (p t : List TraceItem) (u : List View) (xs : List Arrival) : Type 0 where
-    pub told : (a : Arrival) → In a xs → Told a
+    pub content : (a : Arrival) → In a xs → HasContent a
     pub knows : Knows (p ++ t) u
 
-  marked-alone : (p : List TraceItem) (i : TraceItem) (u : List View) (a : Arrival) → Told a → Knows (p ++ i ∷ []) u
+  marked-alone : (p : List TraceItem) (i : TraceItem) (u : List View) (a : Arrival) → HasContent a → Knows (p ++ i ∷ []) u
       → Marked p (i ∷ []) u (a ∷ [])
-  marked-alone p i u a told h = record { told = λ x e. by-place x e; knows = h }
+  marked-alone p i u a content h = record { content = λ x e. by-place x e; knows = h }
     where
-      by-place : (x : Arrival) → In x (a ∷ []) → Told x
-      by-place x (inl e) = subst Told (sym e) told
+      by-place : (x : Arrival) → In x (a ∷ []) → HasContent x
+      by-place x (inl e) = subst HasContent (sym e) content
       by-place x (inr e) = elim e [ ]
 
   marked-first : (p : List TraceItem) (i : TraceItem) (t : List TraceItem) (u : List View) (a : Arrival)
-      (xs : List Arrival) → Told a → Marked (p ++ i ∷ []) t u xs → Marked p (i ∷ t) u (a ∷ xs)
-  marked-first p i t u a xs told more = record {
-    told = λ x e. by-place x e;
+      (xs : List Arrival) → HasContent a → Marked (p ++ i ∷ []) t u xs → Marked p (i ∷ t) u (a ∷ xs)
+  marked-first p i t u a xs content more = record {
+    content = λ x e. by-place x e;
     knows = subst (λ (x : List TraceItem). Knows x u) (append_assoc p (i ∷ []) t) more.knows;
   }
     where
-      by-place : (x : Arrival) → In x (a ∷ xs) → Told x
-      by-place x (inl e) = subst Told (sym e) told
-      by-place x (inr e) = more.told x e
+      by-place : (x : Arrival) → In x (a ∷ xs) → HasContent x
+      by-place x (inl e) = subst HasContent (sym e) content
+      by-place x (inr e) = more.content x e
 
   marked-on : (p t ts : List TraceItem) (m u : List View) (xs ys : List Arrival) → Marked p t m xs
       → Marked (p ++ t) ts u ys → Marked p (t ++ ts) u (xs ++ ys)
   marked-on p t ts m u xs ys a b = record {
-    told = λ x e. by-part x (in-append x xs ys e);
+    content = λ x e. by-part x (in-append x xs ys e);
     knows = subst (λ (x : List TraceItem). Knows x u) (append_assoc p t ts) b.knows;
   }
     where
-      by-part : (x : Arrival) → In x xs ⊎ In x ys → Told x
-      by-part x (inl e) = a.told x e
-      by-part x (inr e) = b.told x e
+      by-part : (x : Arrival) → In x xs ⊎ In x ys → HasContent x
+      by-part x (inl e) = a.content x e
+      by-part x (inr e) = b.content x e
 
   -- the visit ends
   marked-left : (p t : List TraceItem) (u : List View) (xs : List Arrival) → Marked p t u xs
       → Marked p (t ++ item.Leave ∷ []) u xs
   marked-left p t u xs h = record {
-    told = h.told;
+    content = h.content;
     knows =
         subst (λ (x : List TraceItem). Knows x u) (append_assoc p t (item.Leave ∷ []))
         (knows-more (p ++ t) item.Leave u (λ j point mark e. absurd (let bad : ⊥ = cc in bad)) h.knows);
@@ -279,12 +279,12 @@ module _ (others : List Accepted → Type 0) (later : Marks → Marks → Type 0
     (grows : (a b : Marks) → later a b → Later a b) (id : List ℕ) (rings : ℕ → ℕ) (Quiet Still : Type 0)
     (stays : Still → (a b : Marks) → later a b → b.count ≡ a.count) where
   abbrev IsUnmarked : {w : List View} → {k : ℕ} → {q : Query} → {start : Start} → {u : List View}
-      → Begins others later w k q start u → Type 0
+      → BeginsVisit others later w k q start u → Type 0
   IsUnmarked b =
-      Quiet → (number : ℕ) → Holds b.begun.seen.marks id number → Holds b.begun.meanwhile.view.marks id number
+      Quiet → (number : ℕ) → RemembersAs b.begun.seen.marks id number → RemembersAs b.begun.meanwhile.view.marks id number
 
   seen-stands : (p : List TraceItem) (w : List View) (k : ℕ) (q : Query) (start : Start) (u : List View)
-      → (b : Begins others later w k q start u) → IsUnmarked b → Knows id rings Quiet Still p w
+      → (b : BeginsVisit others later w k q start u) → IsUnmarked b → Knows id rings Quiet Still p w
       → Stands id rings Quiet Still p k b.begun.seen.marks
   seen-stands p w k q start u b unmarked h =
       let m = b.begun.meanwhile in
@@ -305,7 +305,7 @@ module _ (others : List Accepted → Type 0) (later : Marks → Marks → Type 0
 
   -- one that searches nothing
   pub other-knows : (p : List TraceItem) (i : TraceItem) (w : List View) (k : ℕ) (q : Query) (start : Start)
-      (u : List View) → (b : Begins others later w k q start u) → is_search b.begin ≡ false
+      (u : List View) → (b : BeginsVisit others later w k q start u) → is_search b.begin ≡ false
       → ((j : ℕ) → IsOther i j) → IsUnmarked b → Knows id rings Quiet Still p w
       → Knows id rings Quiet Still (p ++ i ∷ []) u
   other-knows p i w k q start u b quiet other unmarked h =
@@ -320,14 +320,14 @@ module _ (others : List Accepted → Type 0) (later : Marks → Marks → Type 0
 
   pub refused-knows : (p : List TraceItem) (w : List View) (k : ℕ) (q : Query) (point : ℕ) (o : Outcome)
       (u : List View)
-      → (b : Begins others later w k q (Refused point o) u) → IsUnmarked b → Knows id rings Quiet Still p w
+      → (b : BeginsVisit others later w k q (Refused point o) u) → IsUnmarked b → Knows id rings Quiet Still p w
       → Knows id rings Quiet Still (p ++ item.Refused k point ∷ []) u
   refused-knows p w k q point o u b =
       other-knows p (item.Refused k point) w k q (Refused point o) u b
       (refused-is (length (history_at u k)) point o b.begin b.is) (λ j x n e. absurd (let bad : ⊥ = cc in bad))
 
   pub path-knows : (p : List TraceItem) (w : List View) (k : ℕ) (q : Query) (l : Local) (u : List View)
-      → (b : Begins others later w k q (Path l) u) → IsUnmarked b → Knows id rings Quiet Still p w
+      → (b : BeginsVisit others later w k q (Path l) u) → IsUnmarked b → Knows id rings Quiet Still p w
       → Knows id rings Quiet Still (p ++ item.Path k l.point ∷ []) u
   path-knows p w k q l u b =
       other-knows p (item.Path k l.point) w k q (Path l) u b
@@ -335,22 +335,22 @@ module _ (others : List Accepted → Type 0) (later : Marks → Marks → Type 0
       (λ j x n e. absurd (let bad : ⊥ = cc in bad))
 
   repeat-knows : (p : List TraceItem) (w : List View) (k : ℕ) (q : Query) (point n : ℕ) (u : List View)
-      → (b : Begins others later w k q (Repeat point n) u) → IsUnmarked b → Knows id rings Quiet Still p w
+      → (b : BeginsVisit others later w k q (Repeat point n) u) → IsUnmarked b → Knows id rings Quiet Still p w
       → Knows id rings Quiet Still (p ++ item.Repeat k point n ∷ []) u
   repeat-knows p w k q point n u b =
       other-knows p (item.Repeat k point n) w k q (Repeat point n) u b
       (ap is_search (repeat-is (length (history_at u k)) point n b.begin b.is))
       (λ j x m e. absurd (let bad : ⊥ = cc in bad))
 
-  repeat-told : (p : List TraceItem) (gone : ℕ) (w : List View) (k : ℕ) (q : Query) (point n : ℕ) (u : List View)
-      → (b : Begins others later w k q (Repeat point n) u) → IsUnmarked b → Knows id rings Quiet Still p w
+  repeat-content : (p : List TraceItem) (gone : ℕ) (w : List View) (k : ℕ) (q : Query) (point n : ℕ) (u : List View)
+      → (b : BeginsVisit others later w k q (Repeat point n) u) → IsUnmarked b → Knows id rings Quiet Still p w
       → States id q
-      → Told id rings Quiet Still (arrival p gone (item.Repeat k point n) b)
-  repeat-told p gone w k q point n u b unmarked h states =
+      → HasContent id rings Quiet Still (arrival p gone (item.Repeat k point n) b)
+  repeat-content p gone w k q point n u b unmarked h states =
       let v = b.begun.seen in
       let here = repeat-here others later w k q point n u b in
       let as_stated = states (parts_of q).stated here.taken in
-      let held : Holds v.marks id n =
+      let held : RemembersAs v.marks id n =
       is_held v.marks id n (sym (remembered-as-stated v.marks q id as_stated) ∙ here.held) in
       let stands = seen-stands p w k q (Repeat point n) u b unmarked h in
       record {
@@ -367,12 +367,12 @@ module _ (others : List Accepted → Type 0) (later : Marks → Marks → Type 0
           subst (λ (y : ℕ). HasSearch p y m) one (subst (λ (y : ℕ). HasSearch p k y) two s)
 
   pub record SearchMarked (p : List TraceItem) (k : ℕ) (l : Local) (u : List View) (a : Arrival) : Type 0 where
-    pub told : Told id rings Quiet Still a
+    pub content : HasContent id rings Quiet Still a
     pub knows : Knows id rings Quiet Still (p ++ item.Search k l.point l.mark ∷ []) u
 
   -- a search, where the trader doesn't remember the identifier, or none of it is noted yet
   pub search-marked : (p : List TraceItem) (gone : ℕ) (w : List View) (k : ℕ) (q : Query) (l : Local) (u : List View)
-      → (b : Begins others later w k q (Search l) u) → IsUnmarked b → Knows id rings Quiet Still p w
+      → (b : BeginsVisit others later w k q (Search l) u) → IsUnmarked b → Knows id rings Quiet Still p w
       → (searched_under (store_seen b.begun.seen) b.begun.seen.marks q).identifier ≡ id
       → ((m : ℕ) → HasSearch p k m → remembered b.begun.seen.marks id ≡ None)
       → SearchMarked p k l u (arrival p gone (item.Search k l.point l.mark) b)
@@ -383,11 +383,11 @@ module _ (others : List Accepted → Type 0) (later : Marks → Marks → Type 0
       let far = λ (m : ℕ) (s : HasSearch p k m). far-from id v.marks m (stands.old m s) (new m s) in
       let counter = (searched_under (store_seen v) v.marks q).counter in
       let x = seen_after v (after_begin (store_seen v) v.marks q b.begin) in
-      let made : x.marks ≡ marked v.marks id counter =
+      let made : x.marks ≡ add_mark v.marks id counter =
       ap (after_begin (store_seen v) v.marks q) (search-is (length (history_at u k)) l b.begin b.is)
-      ∙ (marks-searched (store_seen v) v.marks q l ∙ ap (λ (y : List ℕ). marked v.marks y counter) under) in
+      ∙ (marks-searched (store_seen v) v.marks q l ∙ ap (λ (y : List ℕ). add_mark v.marks y counter) under) in
       record {
-        told = record {
+        content = record {
           under = λ j e. under;
           searched = λ j y m e. searched-so j y m e mark far stands.ring_is;
           named = λ quiet j y m e. absurd (let bad : ⊥ = cc in bad);
@@ -399,7 +399,7 @@ module _ (others : List Accepted → Type 0) (later : Marks → Marks → Type 0
             b.begun.meanwhile.is h
             (subst (Stands id rings Quiet Still (p ++ item.Search k l.point l.mark ∷ []) k) (sym made)
             (subst
-            (λ (n : ℕ). Stands id rings Quiet Still (p ++ item.Search k l.point n ∷ []) k (marked v.marks id counter))
+            (λ (n : ℕ). Stands id rings Quiet Still (p ++ item.Search k l.point n ∷ []) k (add_mark v.marks id counter))
             mark (stands-searched id rings Quiet Still p k l.point v.marks counter far stands)))
             (λ j apart y m e. apart (let same : k ≡ j = cc in same)));
       }
@@ -427,8 +427,8 @@ module _ (others : List Accepted → Type 0) (later : Marks → Marks → Type 0
     (grows : (a b : Marks) → later a b → Later a b) (inside : Insides) (id : List ℕ) (rings : ℕ → ℕ)
     (Quiet Still : Type 0) (stays : Still → (a b : Marks) → later a b → b.count ≡ a.count) where
   opened-marked : (p : List TraceItem) (gone : ℕ) (w : List View) (k : ℕ) (q : Query) (l : Local) (x m : List View)
-      (t : List TraceItem) (xs : List Arrival) {start : Start} {head : TraceItem} → Opens k l start head
-      → (b : Begins others later w k q start x) → States id q
+      (t : List TraceItem) (xs : List Arrival) {start : Start} {head : TraceItem} → OpensWith k l start head
+      → (b : BeginsVisit others later w k q start x) → States id q
       → IsUnmarked others later grows id rings Quiet Still stays b
       → Knows id rings Quiet Still p w
       → (Passes id l → Knows id rings Quiet Still (p ++ head ∷ []) x
@@ -445,7 +445,7 @@ module _ (others : List Accepted → Type 0) (later : Marks → Marks → Type 0
       let passes : Passes id l =
       search-states l id here.served.path (here.served.identified ∙ ap (λ (y : List ℕ). Some y) under) in
       marked-first id rings Quiet Still p (item.Search k l.point l.mark) (t ++ item.Leave ∷ []) m
-      (arrival p gone (item.Search k l.point l.mark) b) xs s.told
+      (arrival p gone (item.Search k l.point l.mark) b) xs s.content
       (marked-left id rings Quiet Still (p ++ item.Search k l.point l.mark ∷ []) t m xs (steps passes s.knows))
   opened-marked p gone w k q l x m t xs passing b states unmarked h steps =
       let path = (known others later).paths w k q l x b in
@@ -455,14 +455,14 @@ module _ (others : List Accepted → Type 0) (later : Marks → Marks → Type 0
       ∙ states (parts_of q).stated path.here.taken in
       marked-first id rings Quiet Still p (item.Path k l.point) (t ++ item.Leave ∷ []) m
       (arrival p gone (item.Path k l.point) b) xs
-      (told-aside id rings Quiet Still (arrival p gone (item.Path k l.point) b) refl)
+      (content-aside id rings Quiet Still (arrival p gone (item.Path k l.point) b) refl)
       (marked-left id rings Quiet Still (p ++ item.Path k l.point ∷ []) t m xs
       (steps passes (path-knows others later grows id rings Quiet Still stays p w k q l x b unmarked h)))
 
   none-marked : (p : List TraceItem) (w : List View) → Knows id rings Quiet Still p w
       → Marked id rings Quiet Still p [] w []
   none-marked p w h = record {
-    told = λ a i. elim i [ ];
+    content = λ a i. elim i [ ];
     knows = subst (λ (x : List TraceItem). Knows id rings Quiet Still x w) (sym (append-nil p)) h;
   }
 
@@ -470,25 +470,25 @@ module _ (others : List Accepted → Type 0) (later : Marks → Marks → Type 0
   aside-marked : (p : List TraceItem) (i : TraceItem) (w : List View) → ((j : ℕ) → IsOther i j)
       → Knows id rings Quiet Still p w → Marked id rings Quiet Still p (i ∷ []) w []
   aside-marked p i w other h = record {
-    told = λ a e. elim e [ ];
+    content = λ a e. elim e [ ];
     knows = knows-more id rings Quiet Still p i w other h;
   }
 
   mutual
-    pub walk-marked : (p : List TraceItem) {s : Course (List View)} {k : ℕ} {q : Query} {t : List TraceItem}
-        {v : Visit} {u : Course (List View)} → (walk : Walk (Begins others later) inside s k q t v u) → States id q
+    pub walk-marked : (p : List TraceItem) {s : WalkState (List View)} {k : ℕ} {q : Query} {t : List TraceItem}
+        {v : Visit} {u : WalkState (List View)} → (walk : Walk (BeginsVisit others later) inside s k q t v u) → States id q
         → AreUnmarked id rings Quiet Still (arrivals p walk) → Knows id rings Quiet Still p s.world
         → Marked id rings Quiet Still p t u.world (arrivals p walk)
     walk-marked p (refused {s = s} {k = k} {q = q} {point = point} {o = o} {w = w} b) states unmarked h =
         marked-alone id rings Quiet Still p (item.Refused k point) w
         (arrival p (sent s.calls) (item.Refused k point) b)
-        (told-aside id rings Quiet Still (arrival p (sent s.calls) (item.Refused k point) b) refl)
+        (content-aside id rings Quiet Still (arrival p (sent s.calls) (item.Refused k point) b) refl)
         (refused-knows others later grows id rings Quiet Still stays p s.world k q point o w b
         (unmarked _ (inl refl)) h)
     walk-marked p (repeat {s = s} {k = k} {q = q} {point = point} {mark = n} {w = w} b) states unmarked h =
         marked-alone id rings Quiet Still p (item.Repeat k point n) w
         (arrival p (sent s.calls) (item.Repeat k point n) b)
-        (repeat-told others later grows id rings Quiet Still stays p (sent s.calls) s.world k q point n w b
+        (repeat-content others later grows id rings Quiet Still stays p (sent s.calls) s.world k q point n w b
         (unmarked _ (inl refl)) h states)
         (repeat-knows others later grows id rings Quiet Still stays p s.world k q point n w b
         (unmarked _ (inl refl)) h)
@@ -501,9 +501,9 @@ module _ (others : List Accepted → Type 0) (later : Marks → Marks → Type 0
         (unmarked _ (inl refl)) h
         (λ passes j. steps-marked (p ++ head ∷ []) steps passes (λ a i. unmarked a (inr i)) j))
 
-    pub steps-marked : (p : List TraceItem) {s : Course (List View)} {l : Local} {answers : List StepAnswer}
-        {t : List TraceItem} {all : List StepAnswer} {u : Course (List View)}
-        → (steps : Steps (Begins others later) inside s l answers t all u) → Passes id l
+    pub steps-marked : (p : List TraceItem) {s : WalkState (List View)} {l : Local} {answers : List StepAnswer}
+        {t : List TraceItem} {all : List StepAnswer} {u : WalkState (List View)}
+        → (steps : Steps (BeginsVisit others later) inside s l answers t all u) → Passes id l
         → AreUnmarked id rings Quiet Still (arrivals_in p steps) → Knows id rings Quiet Still p s.world
         → Marked id rings Quiet Still p t u.world (arrivals_in p steps)
     steps-marked p (done {s = s} e) passes unmarked h = none-marked p s.world h
@@ -515,8 +515,8 @@ module _ (others : List Accepted → Type 0) (later : Marks → Marks → Type 0
         (steps-marked (p ++ t) steps passes
         (λ x i. unmarked x (in-right x (arrivals_by p step) (arrivals_in (p ++ t) steps) i)) a.knows)
 
-    step-marked : (p : List TraceItem) {s : Course (List View)} {question : Next} {t : List TraceItem}
-        {r : StepAnswer} {u : Course (List View)} → (step : Step (Begins others later) inside s question t r u)
+    step-marked : (p : List TraceItem) {s : WalkState (List View)} {question : Next} {t : List TraceItem}
+        {r : StepAnswer} {u : WalkState (List View)} → (step : Step (BeginsVisit others later) inside s question t r u)
         → ((target : Ior) (sub : Query) → question ≡ Forward target sub → States id sub)
         → AreUnmarked id rings Quiet Still (arrivals_by p step) → Knows id rings Quiet Still p s.world
         → Marked id rings Quiet Still p t u.world (arrivals_by p step)
@@ -524,7 +524,7 @@ module _ (others : List Accepted → Type 0) (later : Marks → Marks → Type 0
         walk-marked p walk (passes target q refl) unmarked h
     step-marked p (outside {s = s} {a = a} i small) passes unmarked h =
         aside-marked p (item.Outside a) s.world (λ j x n e. absurd (let bad : ⊥ = cc in bad)) h
-    step-marked p (unanswered {s = s} {f = f} i n) passes unmarked h =
+    step-marked p (no_memory_with {s = s} {f = f} i n) passes unmarked h =
         aside-marked p (item.Failed f) s.world (λ j x n e. absurd (let bad : ⊥ = cc in bad)) h
     step-marked p (evaluated {s = s} {value = value} i) passes unmarked h =
         aside-marked p (item.Evaluated value) s.world (λ j x n e. absurd (let bad : ⊥ = cc in bad)) h

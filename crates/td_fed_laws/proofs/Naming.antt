@@ -2,17 +2,18 @@
 use Rattle.std.proofs.Common.{◌≡◌, ℕ, inl, inr, List, [], ◌∷◌, ◌++◌, length, Option, Some, None, refl, sym, ap}
 use Rattle.std.proofs.Common.{append-nil, subst, ◌∙◌}
 use Rattle.td_cdr.specs.Marks.{In, Later, Marks, remembered}
-use Rattle.td_codes.specs.declared.reference.Ior.{Ior}
+use Rattle.td_typecode.specs.declared.reference.Ior.{Ior}
 use Rattle.td_fed.proofs.Members.{Insides}
-use Rattle.td_fed.specs.Visiting.{Begins}
+use Rattle.td_fed.specs.Visiting.{BeginsVisit}
 use Rattle.td_fed_laws.specs.Arrivals.{Arrival, arrival, arrivals, arrivals_by, arrivals_in, sent}
 use Rattle.td_fed_laws.specs.Traces.{HasSearch}
 use Rattle.td_fed_laws.proofs.Alone.{known, repeat-here, search-here}
 use Rattle.td_fed_laws.proofs.Arriving.{in-left}
 use Rattle.td_fed_laws.proofs.Carried.{Says, path-keeps, request, says, search-states}
 use Rattle.td_fed_laws.proofs.Leading.{one-question, stated-there}
-use Rattle.td_fed_laws.proofs.Marking.{AreUnmarked, IsOther, Knows, Told, path-knows, search-before, search-marked}
-use Rattle.td_fed_laws.proofs.Marking.{steps-marked, told-aside, walk-marked}
+use Rattle.td_fed_laws.proofs.Marking.{AreUnmarked, IsOther, Knows, HasContent, path-knows, search-before}
+use Rattle.td_fed_laws.proofs.Marking.{search-marked}
+use Rattle.td_fed_laws.proofs.Marking.{steps-marked, content-aside, walk-marked}
 use Rattle.td_ops.specs.declared.call.Query.{Query}
 use Rattle.td_register.specs.declared.history.Accepted.{Accepted}
 use Rattle.td_store.specs.declared.local.Local.{Local}
@@ -26,9 +27,9 @@ use Rattle.td_walk.specs.declared.answer.StepAnswer.{StepAnswer}
 use Rattle.td_walk.specs.declared.trace.TraceItem.{TraceItem}
 use Rattle.td_walk.specs.declared.trace.TraceItem.TheVariants as item
 use Rattle.td_walk.specs.declared.trace.Visit.{Visit}
-use Rattle.td_walk_laws.specs.Walks.{Course, Opens, Path, Search, Start, Step, Steps, Walk, with_world}
-use Rattle.td_walk_laws.specs.Walks.{asked, asking, done, evaluated, outside, passing, refused, repeat, searching}
-use Rattle.td_walk_laws.specs.Walks.{unanswered, unevaluated, unreachable, visited}
+use Rattle.td_query_walk.specs.Walks.{WalkState, OpensWith, Path, Search, Start, Step, Steps, Walk, with_world}
+use Rattle.td_query_walk.specs.Walks.{asked, asking, done, evaluated, outside, passing, refused, repeat, searching}
+use Rattle.td_query_walk.specs.Walks.{no_memory_with, unevaluated, unreachable, visited}
 
 -- no search stands among these items
 abbrev pub NoSearch : List TraceItem → Type 0
@@ -41,9 +42,9 @@ module _ (others : List Accepted → Type 0) (later : Marks → Marks → Type 0
     (grows : (a b : Marks) → later a b → Later a b) (inside : Insides) (rings : ℕ → ℕ) (Quiet : List ℕ → Type 0)
     (Still : Type 0) (stays : Still → (a b : Marks) → later a b → b.count ≡ a.count) where
   -- one identifier is that of all these arrivals
-  pub record AllTold (xs : List Arrival) : Type 0 where
+  pub record AllContent (xs : List Arrival) : Type 0 where
     pub identifier : List ℕ
-    pub told : (a : Arrival) → In a xs → Told identifier rings (Quiet identifier) Still a
+    pub content : (a : Arrival) → In a xs → HasContent identifier rings (Quiet identifier) Still a
 
   -- whichever it will be
   abbrev Known : List TraceItem → List View → Type 0
@@ -52,31 +53,31 @@ module _ (others : List Accepted → Type 0) (later : Marks → Marks → Type 0
   abbrev Unmarked : List Arrival → Type 0
   Unmarked xs = (id : List ℕ) → AreUnmarked id rings (Quiet id) Still xs
 
-  none-told : AllTold []
-  none-told = record { identifier = []; told = λ a i. elim i [ ] }
+  none-content : AllContent []
+  none-content = record { identifier = []; content = λ a i. elim i [ ] }
 
-  told-first : (a : Arrival) (xs : List Arrival) → ((id : List ℕ) → Told id rings (Quiet id) Still a) → AllTold xs
-      → AllTold (a ∷ xs)
-  told-first a xs first more = record { identifier = more.identifier; told = λ x i. by-place x i }
+  content-first : (a : Arrival) (xs : List Arrival) → ((id : List ℕ) → HasContent id rings (Quiet id) Still a) → AllContent xs
+      → AllContent (a ∷ xs)
+  content-first a xs first more = record { identifier = more.identifier; content = λ x i. by-place x i }
     where
-      by-place : (x : Arrival) → In x (a ∷ xs) → Told more.identifier rings (Quiet more.identifier) Still x
+      by-place : (x : Arrival) → In x (a ∷ xs) → HasContent more.identifier rings (Quiet more.identifier) Still x
       by-place x (inl e) =
-          subst (Told more.identifier rings (Quiet more.identifier) Still) (sym e) (first more.identifier)
-      by-place x (inr i) = more.told x i
+          subst (HasContent more.identifier rings (Quiet more.identifier) Still) (sym e) (first more.identifier)
+      by-place x (inr i) = more.content x i
 
   -- where no question is left none is asked
-  no-step : {s : Course (List View)} {question : Next} {t : List TraceItem} {r : StepAnswer}
-      {u : Course (List View)} → Step (Begins others later) inside s question t r u → question ≡ Done → ⊥
+  no-step : {s : WalkState (List View)} {question : Next} {t : List TraceItem} {r : StepAnswer}
+      {u : WalkState (List View)} → Step (BeginsVisit others later) inside s question t r u → question ≡ Done → ⊥
   no-step (visited i walk) e = cc
   no-step (outside i small) e = cc
-  no-step (unanswered i f) e = cc
+  no-step (no_memory_with i f) e = cc
   no-step (evaluated i) e = cc
   no-step (unevaluated i f) e = cc
   no-step (unreachable i) e = cc
 
-  none-arrive : (p : List TraceItem) {s : Course (List View)} {l : Local} {answers : List StepAnswer}
-      {t : List TraceItem} {all : List StepAnswer} {u : Course (List View)}
-      → (steps : Steps (Begins others later) inside s l answers t all u) → next_of l answers ≡ Done
+  none-arrive : (p : List TraceItem) {s : WalkState (List View)} {l : Local} {answers : List StepAnswer}
+      {t : List TraceItem} {all : List StepAnswer} {u : WalkState (List View)}
+      → (steps : Steps (BeginsVisit others later) inside s l answers t all u) → next_of l answers ≡ Done
       → arrivals_in p steps ≡ []
   none-arrive p (done e) over = refl
   none-arrive p (asked step steps) over = absurd (no-step step over)
@@ -87,16 +88,16 @@ module _ (others : List Accepted → Type 0) (later : Marks → Marks → Type 0
     known : Known p w
     unmarked : Unmarked xs
 
-  searched-told : (p : List TraceItem) (k : ℕ) (q : Query) (l : Local) {s m : Course (List View)} {x : List View}
-      {t : List TraceItem} {answers : List StepAnswer} → (b : Begins others later s.world k q (Search l) x)
-      → (steps : Steps (Begins others later) inside (with_world s x) l [] t answers m)
+  searched-content : (p : List TraceItem) (k : ℕ) (q : Query) (l : Local) {s m : WalkState (List View)} {x : List View}
+      {t : List TraceItem} {answers : List StepAnswer} → (b : BeginsVisit others later s.world k q (Search l) x)
+      → (steps : Steps (BeginsVisit others later) inside (with_world s x) l [] t answers m)
       → Along p s.world
       (arrival p (sent s.calls) (item.Search k l.point l.mark) b
       ∷ arrivals_in (p ++ item.Search k l.point l.mark ∷ []) steps)
-      → AllTold
+      → AllContent
       (arrival p (sent s.calls) (item.Search k l.point l.mark) b
       ∷ arrivals_in (p ++ item.Search k l.point l.mark ∷ []) steps)
-  searched-told p k q l {s = s} {x = x} b steps h =
+  searched-content p k q l {s = s} {x = x} b steps h =
       let here = search-here others later s.world k q l x b in
       let id = (searched_under (store_seen b.begun.seen) b.begun.seen.marks q).identifier in
       let first =
@@ -106,33 +107,33 @@ module _ (others : List Accepted → Type 0) (later : Marks → Marks → Type 0
       steps-marked others later grows inside id rings (Quiet id) Still stays
       (p ++ item.Search k l.point l.mark ∷ []) steps
       (search-states l id here.served.path here.served.identified) (λ a i. h.unmarked id a (inr i)) first.knows in
-      record { identifier = id; told = λ a i. by-place id first.told more.told a i }
+      record { identifier = id; content = λ a i. by-place id first.content more.content a i }
     where
       by-place : (id : List ℕ)
-          → Told id rings (Quiet id) Still (arrival p (sent s.calls) (item.Search k l.point l.mark) b)
+          → HasContent id rings (Quiet id) Still (arrival p (sent s.calls) (item.Search k l.point l.mark) b)
           → ((a : Arrival) → In a (arrivals_in (p ++ item.Search k l.point l.mark ∷ []) steps)
-          → Told id rings (Quiet id) Still a)
+          → HasContent id rings (Quiet id) Still a)
           → (a : Arrival)
           → In a
           (arrival p (sent s.calls) (item.Search k l.point l.mark) b
           ∷ arrivals_in (p ++ item.Search k l.point l.mark ∷ []) steps)
-          → Told id rings (Quiet id) Still a
-      by-place id first more a (inl e) = subst (Told id rings (Quiet id) Still) (sym e) first
+          → HasContent id rings (Quiet id) Still a
+      by-place id first more a (inl e) = subst (HasContent id rings (Quiet id) Still) (sym e) first
       by-place id first more a (inr i) = more a i
 
-  passed-told : (p : List TraceItem) (k : ℕ) (q : Query) (l : Local) {s m : Course (List View)} {x : List View}
-      {t : List TraceItem} {answers : List StepAnswer} → (b : Begins others later s.world k q (Path l) x)
-      → (steps : Steps (Begins others later) inside (with_world s x) l [] t answers m)
+  passed-content : (p : List TraceItem) (k : ℕ) (q : Query) (l : Local) {s m : WalkState (List View)} {x : List View}
+      {t : List TraceItem} {answers : List StepAnswer} → (b : BeginsVisit others later s.world k q (Path l) x)
+      → (steps : Steps (BeginsVisit others later) inside (with_world s x) l [] t answers m)
       → Along p s.world
       (arrival p (sent s.calls) (item.Path k l.point) b ∷ arrivals_in (p ++ item.Path k l.point ∷ []) steps)
       → (Along (p ++ item.Path k l.point ∷ []) x (arrivals_in (p ++ item.Path k l.point ∷ []) steps)
-      → AllTold (arrivals_in (p ++ item.Path k l.point ∷ []) steps))
-      → AllTold
+      → AllContent (arrivals_in (p ++ item.Path k l.point ∷ []) steps))
+      → AllContent
       (arrival p (sent s.calls) (item.Path k l.point) b ∷ arrivals_in (p ++ item.Path k l.point ∷ []) steps)
-  passed-told p k q l {s = s} {x = x} b steps h more =
+  passed-content p k q l {s = s} {x = x} b steps h more =
       let a = arrival p (sent s.calls) (item.Path k l.point) b in
-      told-first a (arrivals_in (p ++ item.Path k l.point ∷ []) steps)
-      (λ id. told-aside id rings (Quiet id) Still a refl)
+      content-first a (arrivals_in (p ++ item.Path k l.point ∷ []) steps)
+      (λ id. content-aside id rings (Quiet id) Still a refl)
       (more (record {
         none =
             no-more p (item.Path k l.point) (λ j y n e. absurd (let bad : ⊥ = cc in bad)) h.none;
@@ -142,21 +143,21 @@ module _ (others : List Accepted → Type 0) (later : Marks → Marks → Type 0
         unmarked = λ id a i. h.unmarked id a (inr i);
       }))
 
-  opened-told : (p : List TraceItem) (k : ℕ) (q : Query) (l : Local) {s m : Course (List View)} {x : List View}
-      {t : List TraceItem} {answers : List StepAnswer} {start : Start} {head : TraceItem} → Opens k l start head
-      → Says request q None → (b : Begins others later s.world k q start x)
-      → (steps : Steps (Begins others later) inside (with_world s x) l [] t answers m)
+  opened-content : (p : List TraceItem) (k : ℕ) (q : Query) (l : Local) {s m : WalkState (List View)} {x : List View}
+      {t : List TraceItem} {answers : List StepAnswer} {start : Start} {head : TraceItem} → OpensWith k l start head
+      → Says request q None → (b : BeginsVisit others later s.world k q start x)
+      → (steps : Steps (BeginsVisit others later) inside (with_world s x) l [] t answers m)
       → Along p s.world (arrival p (sent s.calls) head b ∷ arrivals_in (p ++ head ∷ []) steps)
       → (((target : Ior) (sub : Query) → next_of l [] ≡ Forward target sub → Says request sub None)
       → ((r : StepAnswer) → next_of l (r ∷ []) ≡ Done)
       → Along (p ++ head ∷ []) x (arrivals_in (p ++ head ∷ []) steps)
-      → AllTold (arrivals_in (p ++ head ∷ []) steps))
-      → AllTold (arrival p (sent s.calls) head b ∷ arrivals_in (p ++ head ∷ []) steps)
-  opened-told p k q l searching none b steps h more = searched-told p k q l b steps h
-  opened-told p k q l {s = s} {x = x} passing none b steps h more =
+      → AllContent (arrivals_in (p ++ head ∷ []) steps))
+      → AllContent (arrival p (sent s.calls) head b ∷ arrivals_in (p ++ head ∷ []) steps)
+  opened-content p k q l searching none b steps h more = searched-content p k q l b steps h
+  opened-content p k q l {s = s} {x = x} passing none b steps h more =
       let path = (known others later).paths s.world k q l x b in
       let here = path.here in
-      passed-told p k q l b steps h
+      passed-content p k q l b steps h
       (more
       (λ target sub e y is.
       (path-keeps (store_seen path.seen) (length path.seen.history) q l here [] target sub e).identifier y is
@@ -164,13 +165,13 @@ module _ (others : List Accepted → Type 0) (later : Marks → Marks → Type 0
       (λ r. one-question l here.link r here.served.path))
 
   mutual
-    walk-told : (p : List TraceItem) {s : Course (List View)} {k : ℕ} {q : Query} {t : List TraceItem}
-        {v : Visit} {u : Course (List View)} → (walk : Walk (Begins others later) inside s k q t v u)
-        → Says request q None → Along p s.world (arrivals p walk) → AllTold (arrivals p walk)
-    walk-told p (refused {s = s} {k = k} {point = point} b) none h =
-        told-first (arrival p (sent s.calls) (item.Refused k point) b) []
-        (λ id. told-aside id rings (Quiet id) Still (arrival p (sent s.calls) (item.Refused k point) b) refl) none-told
-    walk-told p (repeat {s = s} {k = k} {q = q} {point = point} {mark = n} {w = w} b) none h =
+    walk-content : (p : List TraceItem) {s : WalkState (List View)} {k : ℕ} {q : Query} {t : List TraceItem}
+        {v : Visit} {u : WalkState (List View)} → (walk : Walk (BeginsVisit others later) inside s k q t v u)
+        → Says request q None → Along p s.world (arrivals p walk) → AllContent (arrivals p walk)
+    walk-content p (refused {s = s} {k = k} {point = point} b) none h =
+        content-first (arrival p (sent s.calls) (item.Refused k point) b) []
+        (λ id. content-aside id rings (Quiet id) Still (arrival p (sent s.calls) (item.Refused k point) b) refl) none-content
+    walk-content p (repeat {s = s} {k = k} {q = q} {point = point} {mark = n} {w = w} b) none h =
         let here = repeat-here others later s.world k q point n w b in
         let named =
         stated-there (remembered b.begun.seen.marks) (parts_of q).stated.request_id n here.held in
@@ -179,21 +180,21 @@ module _ (others : List Accepted → Type 0) (later : Marks → Marks → Type 0
       where
         neither : (id : List ℕ) → ◌≡◌ {A = Option (List ℕ)} None (Some id) → ⊥
         neither id e = cc
-    walk-told p (asking {k = k} {q = q} {l = l} {head = head} b o steps en) none h =
-        opened-told p k q l o none b steps h
-        (λ passes one along. steps-told (p ++ head ∷ []) steps passes one along)
+    walk-content p (asking {k = k} {q = q} {l = l} {head = head} b o steps en) none h =
+        opened-content p k q l o none b steps h
+        (λ passes one along. steps-content (p ++ head ∷ []) steps passes one along)
 
-    steps-told : (p : List TraceItem) {s : Course (List View)} {l : Local} {answers : List StepAnswer}
-        {t : List TraceItem} {all : List StepAnswer} {u : Course (List View)}
-        → (steps : Steps (Begins others later) inside s l answers t all u)
+    steps-content : (p : List TraceItem) {s : WalkState (List View)} {l : Local} {answers : List StepAnswer}
+        {t : List TraceItem} {all : List StepAnswer} {u : WalkState (List View)}
+        → (steps : Steps (BeginsVisit others later) inside s l answers t all u)
         → ((target : Ior) (sub : Query) → next_of l answers ≡ Forward target sub → Says request sub None)
         → ((r : StepAnswer) → next_of l (answers ++ r ∷ []) ≡ Done) → Along p s.world (arrivals_in p steps)
-        → AllTold (arrivals_in p steps)
-    steps-told p (done e) passes one h = none-told
-    steps-told p (asked {t = t} {r = r} step steps) passes one h =
+        → AllContent (arrivals_in p steps)
+    steps-content p (done e) passes one h = none-content
+    steps-content p (asked {t = t} {r = r} step steps) passes one h =
         let over : arrivals_in (p ++ t) steps ≡ [] = none-arrive (p ++ t) steps (one r) in
         let first =
-        step-told p step (λ target sub e. passes target sub e)
+        step-content p step (λ target sub e. passes target sub e)
         (record {
           none = h.none;
           known = h.known;
@@ -202,36 +203,36 @@ module _ (others : List Accepted → Type 0) (later : Marks → Marks → Type 0
         }) in
         record {
           identifier = first.identifier;
-          told =
-              λ a i. first.told a
+          content =
+              λ a i. first.content a
               (subst (In a) (ap (λ (x : List Arrival). arrivals_by p step ++ x) over ∙ append-nil (arrivals_by p step))
               i);
         }
 
-    step-told : (p : List TraceItem) {s : Course (List View)} {question : Next} {t : List TraceItem}
-        {r : StepAnswer} {u : Course (List View)} → (step : Step (Begins others later) inside s question t r u)
+    step-content : (p : List TraceItem) {s : WalkState (List View)} {question : Next} {t : List TraceItem}
+        {r : StepAnswer} {u : WalkState (List View)} → (step : Step (BeginsVisit others later) inside s question t r u)
         → ((target : Ior) (sub : Query) → question ≡ Forward target sub → Says request sub None)
-        → Along p s.world (arrivals_by p step) → AllTold (arrivals_by p step)
-    step-told p (visited {target = target} {q = q} i walk) passes h = walk-told p walk (passes target q refl) h
-    step-told p (outside i small) passes h = none-told
-    step-told p (unanswered i f) passes h = none-told
-    step-told p (evaluated i) passes h = none-told
-    step-told p (unevaluated i f) passes h = none-told
-    step-told p (unreachable i) passes h = none-told
+        → Along p s.world (arrivals_by p step) → AllContent (arrivals_by p step)
+    step-content p (visited {target = target} {q = q} i walk) passes h = walk-content p walk (passes target q refl) h
+    step-content p (outside i small) passes h = none-content
+    step-content p (no_memory_with i f) passes h = none-content
+    step-content p (evaluated i) passes h = none-content
+    step-content p (unevaluated i f) passes h = none-content
+    step-content p (unreachable i) passes h = none-content
 
   -- each walk
-  pub all-told : {s : Course (List View)} {k : ℕ} {q : Query} {t : List TraceItem} {v : Visit}
-      {u : Course (List View)} → (walk : Walk (Begins others later) inside s k q t v u) → Known [] s.world
-      → Unmarked (arrivals [] walk) → AllTold (arrivals [] walk)
-  all-told {s = s} {q = q} walk known unmarked = by-stated (parts_of q).stated.request_id refl
+  pub all-content : {s : WalkState (List View)} {k : ℕ} {q : Query} {t : List TraceItem} {v : Visit}
+      {u : WalkState (List View)} → (walk : Walk (BeginsVisit others later) inside s k q t v u) → Known [] s.world
+      → Unmarked (arrivals [] walk) → AllContent (arrivals [] walk)
+  all-content {s = s} {q = q} walk known unmarked = by-stated (parts_of q).stated.request_id refl
     where
-      by-stated : (o : Option (List ℕ)) → (parts_of q).stated.request_id ≡ o → AllTold (arrivals [] walk)
+      by-stated : (o : Option (List ℕ)) → (parts_of q).stated.request_id ≡ o → AllContent (arrivals [] walk)
       by-stated (Some id) e = record {
         identifier = id;
-        told =
+        content =
             (walk-marked others later grows inside id rings (Quiet id) Still stays [] walk (says request q (Some id) e)
-            (unmarked id) (known id)).told;
+            (unmarked id) (known id)).content;
       }
       by-stated None e =
-          walk-told [] walk (says request q None e)
+          walk-content [] walk (says request q None e)
           (record { none = λ k mark s. elim s.there [ ]; known = known; unmarked = unmarked })

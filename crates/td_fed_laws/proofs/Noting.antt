@@ -3,7 +3,7 @@
 use Rattle.std.proofs.Common.{◌≡◌, ℕ, ◌⊎◌, inl, inr, Bool, true, false, cond, nat_eq, true≢false}
 use Rattle.std.proofs.Common.{List, [], ◌∷◌, ◌++◌, Option, Some, None, refl, sym, ap, subst, ◌∙◌, eq-eqb, eqb-true}
 use Rattle.td_cdr.specs.Marks.{In}
-use Rattle.td_fed_laws.specs.Traces.{HasSearch, IsSearched}
+use Rattle.td_fed_laws.specs.Traces.{HasSearch, IsSearchedInTrace}
 use Rattle.td_fed_laws.specs.WalkLaws.{NamesSearches, RepeatsExactly, SearchesOnce}
 use Rattle.td_walk.specs.declared.trace.TraceItem.{TraceItem}
 use Rattle.td_walk.specs.declared.trace.TraceItem.TheVariants as item
@@ -161,11 +161,11 @@ pub repeats-exactly-by : (t : List TraceItem) → SearchesOnce t → NamesSearch
 repeats-exactly-by t once names before rest (item.Search k point mark) trader is at =
     let same : trader ≡ k = cc in (
       λ e. absurd (true≢false (sym e)),
-      λ s. absurd (once before rest k point mark is (subst (IsSearched before) same s)),
+      λ s. absurd (once before rest k point mark is (subst (IsSearchedInTrace before) same s)),
     )
 repeats-exactly-by t once names before rest (item.Repeat k point mark) trader is at =
     let same : k ≡ trader = cc in (
-      λ e. subst (IsSearched before) same (record { mark = mark; search = names before rest k point mark is }),
+      λ e. subst (IsSearchedInTrace before) same (record { mark = mark; search = names before rest k point mark is }),
       λ s. refl,
     )
 repeats-exactly-by t once names before rest other trader is at = absurd (none-some trader at)

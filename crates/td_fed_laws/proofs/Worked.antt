@@ -1,9 +1,10 @@
 -- The worked examples of arrivals.
 use Rattle.std.proofs.Common.{◌≡◌, ℕ, zero, suc, ◌+◌, ◌<◌, inl, inr, List, [], ◌∷◌, codes, take, drop}
 use Rattle.std.proofs.Common.{Option, Some, None, refl, sym, ap, subst, arith}
-use Rattle.td_cdr.specs.Marks.{Holds, In, Remembered, entry_of}
-use Rattle.td_fed_laws.specs.ArrivalExamples.{comes, foreign, forgotten, in_foreign, in_forgotten, in_group, in_ring}
-use Rattle.td_fed_laws.specs.ArrivalExamples.{marked_q, marked_qa, marked_qab, ring, unmarked, with_marks}
+use Rattle.td_cdr.specs.Marks.{RemembersAs, In, RememberedMark, entry_of}
+use Rattle.td_fed_laws.specs.ArrivalExamples.{comes, foreign, forgotten_search, in_foreign, in_forgotten, in_group}
+use Rattle.td_fed_laws.specs.ArrivalExamples.{in_ring}
+use Rattle.td_fed_laws.specs.ArrivalExamples.{marked_q, marked_qa, marked_qab, ring, empty_marks, with_marks}
 use Rattle.td_fed_laws.specs.Arrivals.{Arrival}
 use Rattle.td_fed_laws.specs.Fresh.{Remembers}
 use Rattle.td_fed_laws.specs.SharedLaws.{IsFreshUnder, IsRemembered}
@@ -21,8 +22,8 @@ first-of (n ∷ ns) = n
 module _ (v : View) (q : Query) where
   -- ---- no trader remembers it at first
 
-  none-held : (id : List ℕ) (x : View) (n : ℕ) → with_marks v unmarked ≡ x → Holds x.marks id n → ⊥
-  none-held id x n e held = subst (λ (y : View). Holds y.marks id n) (sym e) held
+  none-held : (id : List ℕ) (x : View) (n : ℕ) → with_marks v empty_marks ≡ x → RemembersAs x.marks id n → ⊥
+  none-held id x n e held = subst (λ (y : View). RemembersAs y.marks id n) (sym e) held
 
   pub none-remember : (trader n : ℕ) → Remembers (in_group v) trader (codes "q") n → ⊥
   none-remember zero n r = none-held (codes "q") r.view n (let is = r.is in cc) r.held
@@ -36,7 +37,7 @@ module _ (v : View) (q : Query) where
       (trader mark : ℕ) → visited_by a.item ≡ Some trader → HasSearch a.before trader mark
       → a.seen.marks.count < mark + a.seen.marks.ring
 
-  near-first : (gone : ℕ) → IsNear (comes v q (item.Search 0 0 1) [] gone unmarked unmarked)
+  near-first : (gone : ℕ) → IsNear (comes v q (item.Search 0 0 1) [] gone empty_marks empty_marks)
   near-first gone trader mark visits h = elim h.there [ ]
 
   -- a visit of 1, where 0 alone was searched
@@ -92,20 +93,20 @@ module _ (v : View) (q : Query) where
   -- ---- fresh
 
   abbrev IsUnmarked : (gone : ℕ) → Arrival → Type 0
-  IsUnmarked gone a = (n : ℕ) → a.sent ≡ gone → Holds a.seen.marks (codes "q") n → Holds a.last.marks (codes "q") n
+  IsUnmarked gone a = (n : ℕ) → a.sent ≡ gone → RemembersAs a.seen.marks (codes "q") n → RemembersAs a.last.marks (codes "q") n
 
   not-same : {n m : ℕ} → entry_of (codes "q") n ≡ entry_of (codes "a") m → ⊥
-  not-same e = let first : 113 ≡ 97 = ap (λ (x : Remembered). first-of x.identifier) e in omega (arith, first)
+  not-same e = let first : 113 ≡ 97 = ap (λ (x : RememberedMark). first-of x.identifier) e in omega (arith, first)
 
-  q-is-first : (n : ℕ) → Holds marked_qa (codes "q") n → Holds marked_q (codes "q") n
+  q-is-first : (n : ℕ) → RemembersAs marked_qa (codes "q") n → RemembersAs marked_q (codes "q") n
   q-is-first n (inl e) = inl e
   q-is-first n (inr (inl e)) = absurd (not-same e)
   q-is-first n (inr (inr i)) = elim i [ ]
 
-  q-is-gone : (n : ℕ) → Holds marked_qab (codes "q") n → ⊥
+  q-is-gone : (n : ℕ) → RemembersAs marked_qab (codes "q") n → ⊥
   q-is-gone n (inl e) = not-same e
   q-is-gone n (inr (inl e)) =
-      let first : 113 ≡ 98 = ap (λ (x : Remembered). first-of x.identifier) e in omega (arith, first)
+      let first : 113 ≡ 98 = ap (λ (x : RememberedMark). first-of x.identifier) e in omega (arith, first)
   q-is-gone n (inr (inr i)) = elim i [ ]
 
   pub ring-fresh : IsFreshUnder (in_group v) 0 (in_ring v q) (codes "q")
@@ -128,7 +129,7 @@ module _ (v : View) (q : Query) where
 
   pub not-fresh : IsFreshUnder (in_group v) 0 (in_foreign v q 0) (codes "q") → ⊥
   not-fresh h =
-      h.unmarked (comes v q (item.Repeat 1 0 1) (item.Search 0 0 1 ∷ []) 0 unmarked marked_q) 1 (inr (inl refl)) refl
+      h.unmarked (comes v q (item.Repeat 1 0 1) (item.Search 0 0 1 ∷ []) 0 empty_marks marked_q) 1 (inr (inl refl)) refl
       (inl refl)
 
   pub outside-fresh : IsFreshUnder (in_group v) 0 (in_foreign v q 1) (codes "q")
@@ -155,14 +156,14 @@ ring-once = searched-once ring ring-right
 pub ring-named : NamesSearches ring
 ring-named = named-search ring ring-right
 
-pub not-once : SearchesOnce forgotten → ⊥
+pub not-once : SearchesOnce forgotten_search → ⊥
 not-once h =
-    h (take 2 forgotten) (drop 3 forgotten) 0 0 4 refl
+    h (take 2 forgotten_search) (drop 3 forgotten_search) 0 0 4 refl
     (record { mark = 1; search = record { point = 0; there = inl refl } })
 
-pub not-farther : FarApart (λ k. 3) forgotten → ⊥
+pub not-farther : FarApart (λ k. 3) forgotten_search → ⊥
 not-farther h =
-    let far : 1 + 3 < 4 = h [] (item.Search 1 0 1 ∷ []) (drop 3 forgotten) 0 0 1 0 4 refl in omega (arith, far)
+    let far : 1 + 3 < 4 = h [] (item.Search 1 0 1 ∷ []) (drop 3 forgotten_search) 0 0 1 0 4 refl in omega (arith, far)
 
 pub not-named : NamesSearches foreign → ⊥
 not-named h = by-place (h (item.Search 0 0 1 ∷ []) (item.Leave ∷ []) 1 0 1 refl)

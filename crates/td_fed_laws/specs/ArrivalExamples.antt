@@ -1,6 +1,6 @@
 -- Worked examples: a ring of two traders that others use too, of which each remembers two identifiers.
 use Rattle.std.specs.Prelude.{◌≡◌, ℕ, List, [], ◌∷◌, codes, None, Some}
-use Rattle.td_cdr.specs.Marks.{Marks, marked, remembered}
+use Rattle.td_cdr.specs.Marks.{Marks, add_mark, remembered}
 use Rattle.td_fed_laws.specs.Arrivals.{Arrival}
 use Rattle.td_fed_laws.specs.SharedLaws.{IsFreshUnder, IsRemembered}
 use Rattle.td_fed_laws.specs.WalkLaws.{FarApart, NamesSearches, SearchesOnce}
@@ -11,18 +11,18 @@ use Rattle.td_walk.specs.declared.trace.TraceItem.TheVariants as item
 
 -- ---- marks
 
-abbrev pub unmarked : Marks
-unmarked = record { count = 0; counter = 0; ring = 2; kept = [] }
+abbrev pub empty_marks : Marks
+empty_marks = record { count = 0; counter = 0; ring = 2; kept = [] }
 
 abbrev pub marked_q : Marks
-marked_q = marked unmarked (codes "q") 0
+marked_q = add_mark empty_marks (codes "q") 0
 
 -- others marked one identifier since, or two
 abbrev pub marked_qa : Marks
-marked_qa = marked marked_q (codes "a") 0
+marked_qa = add_mark marked_q (codes "a") 0
 
 abbrev pub marked_qab : Marks
-marked_qab = marked marked_qa (codes "b") 0
+marked_qab = add_mark marked_qa (codes "b") 0
 
 -- ---- arrivals of the query q, at the traders 0 and 1
 
@@ -42,12 +42,12 @@ comes v q i before gone last now = record {
 }
 
 abbrev pub in_group : View → List View
-in_group v = with_marks v unmarked ∷ with_marks v unmarked ∷ []
+in_group v = with_marks v empty_marks ∷ with_marks v empty_marks ∷ []
 
 abbrev pub first_two : View → Query → List Arrival → List Arrival
 first_two v q rest =
-    comes v q (item.Search 0 0 1) [] 0 unmarked unmarked
-    ∷ comes v q (item.Search 1 0 1) (item.Search 0 0 1 ∷ []) 0 unmarked unmarked
+    comes v q (item.Search 0 0 1) [] 0 empty_marks empty_marks
+    ∷ comes v q (item.Search 1 0 1) (item.Search 0 0 1 ∷ []) 0 empty_marks empty_marks
     ∷ rest
 
 -- The query comes from 0 to 1 and back, as others have marked one identifier at 0: it is remembered.
@@ -61,8 +61,8 @@ in_ring v q =
     ∷ [])
 
 -- Others have marked two: it is forgotten, and 0 is searched again.
-abbrev pub forgotten : List TraceItem
-forgotten =
+abbrev pub forgotten_search : List TraceItem
+forgotten_search =
     item.Search 0 0 1
     ∷ item.Search 1 0 1
     ∷ item.Search 0 0 4
@@ -83,8 +83,8 @@ foreign = item.Search 0 0 1 ∷ item.Repeat 1 0 1 ∷ item.Leave ∷ []
 
 abbrev pub in_foreign : View → Query → (gone : ℕ) → List Arrival
 in_foreign v q gone =
-    comes v q (item.Search 0 0 1) [] 0 unmarked unmarked
-    ∷ comes v q (item.Repeat 1 0 1) (item.Search 0 0 1 ∷ []) gone unmarked marked_q
+    comes v q (item.Search 0 0 1) [] 0 empty_marks empty_marks
+    ∷ comes v q (item.Repeat 1 0 1) (item.Search 0 0 1 ∷ []) gone empty_marks marked_q
     ∷ []
 
 pub record WorkedArrivals (v : View) (q : Query) : Type 0 where
@@ -99,8 +99,8 @@ pub record WorkedArrivals (v : View) (q : Query) : Type 0 where
   pub not_remembered : IsRemembered (in_forgotten v q) → ⊥
   pub forgotten_fresh : IsFreshUnder (in_group v) 0 (in_forgotten v q) (codes "q")
   -- its marks are three apart, and no more
-  pub not_farther : FarApart (λ k. 3) forgotten → ⊥
-  pub not_once : SearchesOnce forgotten → ⊥
+  pub not_farther : FarApart (λ k. 3) forgotten_search → ⊥
+  pub not_once : SearchesOnce forgotten_search → ⊥
   -- what isn't fresh may be a repeat of another's mark, though it is remembered
   pub foreign_remembered : IsRemembered (in_foreign v q 0)
   pub not_fresh : IsFreshUnder (in_group v) 0 (in_foreign v q 0) (codes "q") → ⊥

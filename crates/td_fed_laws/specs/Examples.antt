@@ -1,6 +1,6 @@
 -- Worked examples of traces.
 use Rattle.std.specs.Prelude.{◌≡◌, true, List, [], ◌∷◌, None, Some, take}
-use Rattle.td_fed_laws.specs.Traces.{HasSearch, first_searched, hops_behind, is_repeat, visited_by, waiting}
+use Rattle.td_fed_laws.specs.Traces.{HasSearch, first_searched, hops_behind, is_repeat, visited_by, waiting_items}
 use Rattle.td_fed_laws.specs.WalkLaws.{LiesWithin, NamesSearches, RepeatsExactly, SearchesOnce}
 use Rattle.td_walk.specs.declared.trace.TraceItem.{TraceItem}
 use Rattle.td_walk.specs.declared.trace.TraceItem.TheVariants as item
@@ -25,8 +25,8 @@ cycle =
 abbrev pub again : List TraceItem
 again = item.Search 0 0 1 ∷ item.Search 0 0 2 ∷ item.Leave ∷ item.Leave ∷ []
 
-abbrev pub unseen : List TraceItem
-unseen = item.Search 0 0 1 ∷ item.Repeat 1 0 1 ∷ item.Leave ∷ []
+abbrev pub unseen_repeat : List TraceItem
+unseen_repeat = item.Search 0 0 1 ∷ item.Repeat 1 0 1 ∷ item.Leave ∷ []
 
 pub record WorkedTraces : Type 0 where
   pub first : first_searched cycle ≡ Some 0
@@ -36,7 +36,7 @@ pub record WorkedTraces : Type 0 where
   pub at_third : hops_behind (take 3 cycle) ≡ 2
   pub at_repeat : hops_behind (take 4 cycle) ≡ 3
   -- every visit ends
-  pub ended : waiting [] cycle ≡ []
+  pub ended : waiting_items [] cycle ≡ []
   -- the repeat names the first search's mark; the refused visit is no visit of a trader
   pub named : HasSearch (take 4 cycle) 0 1
   pub repeats : is_repeat (item.Repeat 0 0 1) ≡ true
@@ -45,5 +45,5 @@ pub record WorkedTraces : Type 0 where
   pub far : LiesWithin 1 cycle → ⊥
   pub not_once : SearchesOnce again → ⊥
   pub not_a_search : RepeatsExactly again → ⊥
-  pub not_named : NamesSearches unseen → ⊥
-  pub not_a_repeat : RepeatsExactly unseen → ⊥
+  pub not_named : NamesSearches unseen_repeat → ⊥
+  pub not_a_repeat : RepeatsExactly unseen_repeat → ⊥

@@ -13,7 +13,7 @@ pub record HasSearch (items : List TraceItem) (trader mark : ℕ) : Type 0 where
   pub point : ℕ
   pub there : In (item.Search trader point mark) items
 
-pub record IsSearched (items : List TraceItem) (trader : ℕ) : Type 0 where
+pub record IsSearchedInTrace (items : List TraceItem) (trader : ℕ) : Type 0 where
   pub mark : ℕ
   pub search : HasSearch items trader mark
 
@@ -61,9 +61,9 @@ waiting_after visits (item.Path trader point) = item.Path trader point ∷ visit
 waiting_after visits item.Leave = all_but_innermost visits
 waiting_after visits other = visits
 
-abbrev pub waiting : List TraceItem → List TraceItem → List TraceItem
-waiting visits [] = visits
-waiting visits (i ∷ is) = waiting (waiting_after visits i) is
+abbrev pub waiting_items : List TraceItem → List TraceItem → List TraceItem
+waiting_items visits [] = visits
+waiting_items visits (i ∷ is) = waiting_items (waiting_after visits i) is
 
 -- a step of a search is a hop, and one along a path isn't
 abbrev pub hops_of : TraceItem → ℕ
@@ -76,4 +76,4 @@ hops_in (visit ∷ visits) = hops_of visit + hops_in visits
 
 -- how many hops below the first search lies what comes behind these items
 abbrev pub hops_behind : List TraceItem → ℕ
-hops_behind before = hops_in (waiting [] before)
+hops_behind before = hops_in (waiting_items [] before)

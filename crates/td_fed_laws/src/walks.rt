@@ -5,8 +5,8 @@ ghost use Rattle.td_fed_laws.specs.WalkLaws.{UnmarkedGroupsAreFresh, VisitsEnd, 
 ghost use Rattle.td_fed_laws.specs.WalkLaws.{WalksSearchFarApart, WalksStayWithinStatedHops};
 ghost use Rattle.td_fed_laws.specs.WalkLaws.{WalksStayWithinTheirHops};
 
+use td_query_walk::answers_are_one;
 use td_trader::Traders;
-use td_walk_laws::answers_are_one;
 
 /// Each trader is searched at most once, where no trader of the group remembers the identifier before. No ring is
 /// asked for: each trader makes at most one mark, and only a later mark is one by which it forgets.

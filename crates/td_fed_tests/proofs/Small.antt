@@ -1,8 +1,8 @@
 -- What the tests' scripts hold is small, and can be written.
 use Rattle.std.proofs.Common.{◌≡◌, ℕ, ◌^◌, ◌<◌, List, [], ◌∷◌, ◌++◌, refl, sym, subst, arith}
 use Rattle.std.specs.List.{AllByRecursion}
-use Rattle.td_codes.specs.References.{profile, reference}
-use Rattle.td_codes.specs.declared.reference.Profile.{Profile}
+use Rattle.td_typecode.specs.References.{profile, reference}
+use Rattle.td_typecode.specs.declared.reference.Profile.{Profile}
 use Rattle.td_types.proofs.Sequences.{sequence-from}
 use Rattle.td_value.specs.Structures.{offer}
 use Rattle.td_value.specs.declared.structures.Offer.{Offer}

@@ -52,52 +52,54 @@ pub(crate) fn check(rt: &impl Abort, alloc: Global, case: Case, lines: &str) -> 
 }
 
 fn is_so(alloc: Global, case: Case, line: &str) -> bool {
-    let (asked, told) = line.split_once(" => ").unwrap_or((line, ""));
+    let (asked, content) = line.split_once(" => ").unwrap_or((line, ""));
     match case {
-        Case::Play => is_played(alloc, asked, told),
-        _ => is_told(alloc, case, asked, told),
+        Case::Play => is_played(alloc, asked, content),
+        _ => is_content(alloc, case, asked, content),
     }
 }
 
-fn is_told(alloc: Global, case: Case, asked: &str, told: &str) -> bool {
+fn is_content(alloc: Global, case: Case, asked: &str, content: &str) -> bool {
     match file_of(alloc, case, asked) {
-        Ok(text) => opens(alloc, case, text.as_slice(), asked, told),
+        Ok(text) => opens(alloc, case, text.as_slice(), asked, content),
         Err(_) => false,
     }
 }
 
-fn opens(alloc: Global, case: Case, text: &[u8], asked: &str, told: &str) -> bool {
+fn opens(alloc: Global, case: Case, text: &[u8], asked: &str, content: &str) -> bool {
     if text.len() > 100000 {
         return false;
     }
     match read_file(alloc, text) {
         Ok(mut opened) => {
-            let passed = answers(alloc, case, &mut opened, asked, told);
+            let passed = answers(alloc, case, &mut opened, asked, content);
             drop(opened);
             passed
         }
-        Err(fault) => is_fault(fault, told),
+        Err(fault) => is_fault(fault, content),
     }
 }
 
-fn answers(alloc: Global, case: Case, opened: &mut Opened, asked: &str, told: &str) -> bool {
+fn answers(alloc: Global, case: Case, opened: &mut Opened, asked: &str, content: &str) -> bool {
     let (_file, rest) = two(asked);
     match case {
-        Case::File => are_counted(alloc, opened.solo.traders.as_slice(), told),
-        Case::Look => is_seen(alloc, opened, rest, told),
-        Case::Name => resolves(alloc, &mut opened.solo, &opened.home, rest, told).unwrap_or(false),
-        _ => asks(alloc, case, &mut opened.solo, &opened.home, rest, told),
+        Case::File => are_counted(alloc, opened.solo.traders.as_slice(), content),
+        Case::Look => is_seen(alloc, opened, rest, content),
+        Case::Name => resolves(alloc, &mut opened.solo, &opened.home, rest, content).unwrap_or(
+            false,
+        ),
+        _ => asks(alloc, case, &mut opened.solo, &opened.home, rest, content),
     }
 }
 
 /// Whether the address, the seed, or what the trader of a number tells is this: `address`, `seed`, or `NUMBER LOOK`.
-fn is_seen(alloc: Global, opened: &Opened, words: &str, told: &str) -> bool {
+fn is_seen(alloc: Global, opened: &Opened, words: &str, content: &str) -> bool {
     let (place, look) = words.split_once(' ').unwrap_or((words, ""));
     match place {
-        "address" => is_home(&opened.home, told),
-        "seed" => are_octets(opened.seed.as_slice(), told),
+        "address" => is_home(&opened.home, content),
+        "seed" => are_octets(opened.seed.as_slice(), content),
         _ => match opened.solo.traders.get(place.parse::<usize>().unwrap_or(9)) {
-            Some(trader) => tells(alloc, trader, look, told),
+            Some(trader) => tells(alloc, trader, look, content),
             None => false,
         },
     }
@@ -110,11 +112,11 @@ fn asks(
     group: &mut Solo,
     home: &Address,
     asked: &str,
-    told: &str,
+    content: &str,
 ) -> bool {
     let (tried, words) = two(asked);
     match query(alloc, words) {
-        Ok(query) => is_answered(alloc, case, group, home, &query, tried, told),
+        Ok(query) => is_answered(alloc, case, group, home, &query, tried, content),
         Err(_) => false,
     }
 }
@@ -126,10 +128,10 @@ fn is_answered(
     home: &Address,
     query: &Shared<Query>,
     tried: &str,
-    told: &str,
+    content: &str,
 ) -> bool {
     match case {
-        Case::Walk => walks(alloc, group, home, query, tried, told),
-        _ => begins(alloc, case, group, query, tried, told),
+        Case::Walk => walks(alloc, group, home, query, tried, content),
+        _ => begins(alloc, case, group, query, tried, content),
     }
 }

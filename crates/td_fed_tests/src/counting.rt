@@ -5,8 +5,8 @@ use std::alloc::Global;
 use td_trader::Trader;
 
 /// Whether a trader has so many types, offers, proxy offers and links.
-fn has_counts(alloc: Global, trader: &Trader, told: &str) -> bool {
-    let mut counts = told.split(' ');
+fn has_counts(alloc: Global, trader: &Trader, content: &str) -> bool {
+    let mut counts = content.split(' ');
     for word in "types offers proxies links".split(' ') {
         if !tells(alloc, trader, word, counts.next().unwrap_or("")) {
             return false;
@@ -16,8 +16,8 @@ fn has_counts(alloc: Global, trader: &Trader, told: &str) -> bool {
 }
 
 /// Whether a trader has this name and these counts, an empty history and no marks.
-fn is_counted(alloc: Global, trader: &Trader, told: &str) -> bool {
-    let (name, counts) = told.split_once(' ').unwrap_or((told, ""));
+fn is_counted(alloc: Global, trader: &Trader, content: &str) -> bool {
+    let (name, counts) = content.split_once(' ').unwrap_or((content, ""));
     trader.name().as_slice() == name.as_bytes()
         && trader.history().is_empty()
         && trader.point() == 0
@@ -26,8 +26,8 @@ fn is_counted(alloc: Global, trader: &Trader, told: &str) -> bool {
 }
 
 /// Whether these traders have these names and counts; `none` is no trader.
-pub(crate) fn are_counted(alloc: Global, traders: &[Trader], told: &str) -> bool {
-    let mut rest = told;
+pub(crate) fn are_counted(alloc: Global, traders: &[Trader], content: &str) -> bool {
+    let mut rest = content;
     for trader in traders {
         let (part, behind) = rest.split_once(", ").unwrap_or((rest, ""));
         if !is_counted(alloc, trader, part) {

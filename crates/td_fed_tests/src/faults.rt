@@ -16,8 +16,8 @@ fn cause_name(cause: LineCause) -> &'static str {
 }
 
 /// Whether an entry is refused at this line for this cause: `LINE CAUSE`.
-pub(crate) fn is_fault(fault: FileFault, told: &str) -> bool {
-    let (number, name) = told.split_once(' ').unwrap_or((told, ""));
+pub(crate) fn is_fault(fault: FileFault, content: &str) -> bool {
+    let (number, name) = content.split_once(' ').unwrap_or((content, ""));
     match fault {
         FileFault::Line(line, cause) => number.parse::<u32>() == Ok(line)
             && name == cause_name(cause),

@@ -49,9 +49,9 @@ fn look(alloc: Global, words: &str) -> Result<Look, Memory> {
     }
 }
 
-fn is_answer(alloc: Global, answer: Result<(Outcome, u32), Memory>, told: &str) -> bool {
+fn is_answer(alloc: Global, answer: Result<(Outcome, u32), Memory>, content: &str) -> bool {
     let passed = match &answer {
-        Ok((outcome, _max_list)) => is_outcome(alloc, outcome, told),
+        Ok((outcome, _max_list)) => is_outcome(alloc, outcome, content),
         Err(_) => false,
     };
     drop(answer);
@@ -59,10 +59,10 @@ fn is_answer(alloc: Global, answer: Result<(Outcome, u32), Memory>, told: &str) 
 }
 
 /// Whether a trader answers so to the look of these words.
-pub(crate) fn tells(alloc: Global, trader: &Trader, words: &str, told: &str) -> bool {
+pub(crate) fn tells(alloc: Global, trader: &Trader, words: &str, content: &str) -> bool {
     match look(alloc, words) {
         Ok(look) => {
-            let passed = is_answer(alloc, trader.look(&look), told);
+            let passed = is_answer(alloc, trader.look(&look), content);
             drop(look);
             passed
         }
@@ -73,44 +73,44 @@ pub(crate) fn tells(alloc: Global, trader: &Trader, words: &str, told: &str) -> 
 // ---- answers
 
 /// Whether an outcome is this: what a reply holds, or a word for an exception.
-pub(crate) fn is_outcome(alloc: Global, outcome: &Outcome, told: &str) -> bool {
+pub(crate) fn is_outcome(alloc: Global, outcome: &Outcome, content: &str) -> bool {
     match outcome {
-        Outcome::Done(reply) => is_reply(alloc, reply, told),
-        Outcome::User(exception) => is_raised(exception, told),
+        Outcome::Done(reply) => is_reply(alloc, reply, content),
+        Outcome::User(exception) => is_raised(exception, content),
         Outcome::System { .. } => false,
     }
 }
 
-fn is_raised(exception: &UserException, told: &str) -> bool {
+fn is_raised(exception: &UserException, content: &str) -> bool {
     match exception {
-        UserException::UnknownTraderName { .. } => told == "unknown",
-        UserException::IllegalTraderName { .. } => told == "illegal",
-        UserException::NotImplemented => told == "unsupported",
+        UserException::UnknownTraderName { .. } => content == "unknown",
+        UserException::IllegalTraderName { .. } => content == "illegal",
+        UserException::NotImplemented => content == "unsupported",
         _ => false,
     }
 }
 
-fn is_reply(alloc: Global, reply: &Reply, told: &str) -> bool {
+fn is_reply(alloc: Global, reply: &Reply, content: &str) -> bool {
     match reply {
-        Reply::Reference(reference) => is_object(alloc, reference, told),
-        Reply::Link(info) => is_link(alloc, info, told),
-        Reply::Stem(octets) => are_octets(octets.as_slice(), told),
-        Reply::Number(number) => told.parse::<u32>() == Ok(*number),
-        Reply::Offer(info) => is_offer(info, told),
-        Reply::Proxy(info) => is_proxy(info.get(), told),
-        Reply::Names(names) => is_count(names.len(), told),
-        Reply::Ids { ids, .. } => is_count(ids.len(), told),
+        Reply::Reference(reference) => is_object(alloc, reference, content),
+        Reply::Link(info) => is_link(alloc, info, content),
+        Reply::Stem(octets) => are_octets(octets.as_slice(), content),
+        Reply::Number(number) => content.parse::<u32>() == Ok(*number),
+        Reply::Offer(info) => is_offer(info, content),
+        Reply::Proxy(info) => is_proxy(info.get(), content),
+        Reply::Names(names) => is_count(names.len(), content),
+        Reply::Ids { ids, .. } => is_count(ids.len(), content),
         _ => false,
     }
 }
 
-fn is_count(count: usize, told: &str) -> bool {
-    told.parse::<usize>() == Ok(count)
+fn is_count(count: usize, content: &str) -> bool {
+    content.parse::<usize>() == Ok(count)
 }
 
 /// Whether octets are these numbers.
-pub(crate) fn are_octets(octets: &[u8], told: &str) -> bool {
-    let mut numbers = told.split(' ');
+pub(crate) fn are_octets(octets: &[u8], content: &str) -> bool {
+    let mut numbers = content.split(' ');
     for octet in octets {
         if numbers.next().unwrap_or("").parse::<u8>() != Ok(*octet) {
             return false;
@@ -120,57 +120,57 @@ pub(crate) fn are_octets(octets: &[u8], told: &str) -> bool {
 }
 
 /// Whether a port is this, with the minor version of IIOP behind a slash where it isn't 0.
-fn is_port(port: u16, minor: u8, told: &str) -> bool {
-    let (number, version) = told.split_once('/').unwrap_or((told, "0"));
+fn is_port(port: u16, minor: u8, content: &str) -> bool {
+    let (number, version) = content.split_once('/').unwrap_or((content, "0"));
     number.parse::<u16>() == Ok(port) && version.parse::<u8>() == Ok(minor)
 }
 
 /// Whether an address is `HOST PORT`.
-pub(crate) fn is_home(home: &Address, told: &str) -> bool {
-    let (host, port) = told.split_once(' ').unwrap_or((told, ""));
+pub(crate) fn is_home(home: &Address, content: &str) -> bool {
+    let (host, port) = content.split_once(' ').unwrap_or((content, ""));
     home.host.as_slice() == host.as_bytes() && is_port(home.port, home.minor, port)
 }
 
 /// Whether a profile is `HOST PORT KEY`; where there is none, nothing is told.
-fn is_at(profile: Result<Iiop, IorFault>, told: &str) -> bool {
-    let (host, rest) = told.split_once(' ').unwrap_or((told, ""));
+fn is_at(profile: Result<Iiop, IorFault>, content: &str) -> bool {
+    let (host, rest) = content.split_once(' ').unwrap_or((content, ""));
     let (port, key) = rest.split_once(' ').unwrap_or((rest, ""));
     let passed = match &profile {
         Ok(found) => found.host.as_slice() == host.as_bytes()
             && is_port(found.port, found.minor, port)
             && found.key.as_slice() == key.as_bytes(),
-        Err(_) => told.is_empty(),
+        Err(_) => content.is_empty(),
     };
     drop(profile);
     passed
 }
 
 /// Whether a reference is `ID HOST PORT KEY`; nothing is told of one without an id and a profile.
-fn is_object(alloc: Global, reference: &Ior, told: &str) -> bool {
-    let (id, place) = told.split_once(' ').unwrap_or((told, ""));
+fn is_object(alloc: Global, reference: &Ior, content: &str) -> bool {
+    let (id, place) = content.split_once(' ').unwrap_or((content, ""));
     reference.id.as_slice() == id.as_bytes() && is_at(iiop_of(alloc, reference), place)
 }
 
 /// Whether a link is `TARGET;REGISTER;DEFAULT LIMITING`.
-fn is_link(alloc: Global, info: &LinkInfo, told: &str) -> bool {
-    let (target, rest) = two(told);
+fn is_link(alloc: Global, info: &LinkInfo, content: &str) -> bool {
+    let (target, rest) = two(content);
     let (register, rules) = two(rest);
     is_object(alloc, &info.target, target)
         && is_object(alloc, &info.target_reg, register)
         && has_rules(info, rules)
 }
 
-fn has_rules(info: &LinkInfo, told: &str) -> bool {
-    let (def_pass_on, limiting) = told.split_once(' ').unwrap_or((told, ""));
+fn has_rules(info: &LinkInfo, content: &str) -> bool {
+    let (def_pass_on, limiting) = content.split_once(' ').unwrap_or((content, ""));
     info.def_pass_on_follow_rule == rule_of(def_pass_on)
         && info.limiting_follow_rule == rule_of(limiting)
 }
 
 /// Whether an offer has this type and two properties, of which the second is evaluated.
-fn is_offer(info: &OfferInfo, told: &str) -> bool {
+fn is_offer(info: &OfferInfo, content: &str) -> bool {
     match info.properties.as_slice() {
         [stated, evaluated] => {
-            info.service_type.as_slice() == told.as_bytes()
+            info.service_type.as_slice() == content.as_bytes()
                 && !is_dynamic(&stated.value.code)
                 && is_dynamic(&evaluated.value.code)
         }
@@ -179,8 +179,8 @@ fn is_offer(info: &OfferInfo, told: &str) -> bool {
 }
 
 /// Whether a proxy offer is `TYPE;RECIPE`, matches by one property, and has no policies.
-fn is_proxy(info: &ProxyInfo, told: &str) -> bool {
-    let (service_type, recipe) = two(told);
+fn is_proxy(info: &ProxyInfo, content: &str) -> bool {
+    let (service_type, recipe) = two(content);
     info.service_type.as_slice() == service_type.as_bytes()
         && info.recipe.as_slice() == recipe.as_bytes()
         && !info.if_match_all

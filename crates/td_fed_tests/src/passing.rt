@@ -89,8 +89,9 @@ fn start_of(stated: &Stated) -> usize {
     }
 }
 
-/// Whether a query is as `WHAT=VALUE` says: how many hops, matches, returned offers and names of a start are stated, the
-/// rule, the names of its policies; `own` is the search's identifier, and `first` how a search asks where its preference was `random`.
+/// Whether a query is as `WHAT=VALUE` says: how many hops, matches, returned offers and names of a start are stated,
+/// the rule, the names of its policies; `own` is the search's identifier, and `first` how a search asks where its
+/// preference was `random`.
 fn says(local: &Local, query: &Query, stated: &Stated, word: &str) -> bool {
     let (what, value) = word.split_once('=').unwrap_or((word, ""));
     match what {
@@ -118,8 +119,8 @@ fn is_first(query: &Query) -> bool {
         && query.how_many == 1000
 }
 
-fn says_all(local: &Local, query: &Query, stated: &Stated, told: &str) -> bool {
-    for word in told.split(' ') {
+fn says_all(local: &Local, query: &Query, stated: &Stated, content: &str) -> bool {
+    for word in content.split(' ') {
         if !says(local, query, stated, word) {
             return false;
         }
@@ -139,17 +140,17 @@ fn passes_on(
     case: Case,
     local: &Local,
     tried: &str,
-    told: &str,
+    content: &str,
 ) -> Result<bool, Memory> {
     let query = Boxed::new(alloc, sub_query(alloc, case, local, tried)?)?;
     let stated = stated_by(alloc, query.get())?;
-    Ok(says_all(local, query.get(), stated.get(), told))
+    Ok(says_all(local, query.get(), stated.get(), content))
 }
 
 /// Whether the link is followed, where an ordinary offer matched or none did.
-fn is_followed(local: &Local, matched: &str, told: &str) -> bool {
+fn is_followed(local: &Local, matched: &str, content: &str) -> bool {
     match link_of(local) {
-        Some(link) => follows(local, matched == "matched", link) == (told == "followed"),
+        Some(link) => follows(local, matched == "matched", link) == (content == "followed"),
         None => false,
     }
 }
@@ -160,10 +161,10 @@ pub(crate) fn passes(
     case: Case,
     local: &Local,
     tried: &str,
-    told: &str,
+    content: &str,
 ) -> Result<bool, Memory> {
     match case {
-        Case::Follow => Ok(is_followed(local, tried, told)),
-        _ => passes_on(alloc, case, local, tried, told),
+        Case::Follow => Ok(is_followed(local, tried, content)),
+        _ => passes_on(alloc, case, local, tried, content),
     }
 }

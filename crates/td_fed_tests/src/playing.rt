@@ -102,27 +102,27 @@ fn gives(alloc: Global, peers: &mut MemPeers, calls: &str, letters: &[u8]) -> Re
 }
 
 /// Whether the calls were noted, so many failed, and so many entries are left.
-fn counts(peers: &MemPeers, calls: usize, told: &str) -> bool {
-    let (faults, left) = told.split_once(' ').unwrap_or((told, ""));
+fn counts(peers: &MemPeers, calls: usize, content: &str) -> bool {
+    let (faults, left) = content.split_once(' ').unwrap_or((content, ""));
     peers.count_calls() == calls
         && faults.parse::<u64>() == Ok(peers.count_faults())
         && left.parse::<usize>() == Ok(peers.count_entries())
 }
 
-fn plays(alloc: Global, peers: &mut MemPeers, calls: &str, told: &str) -> bool {
-    let (letters, numbers) = told.split_once(' ').unwrap_or((told, ""));
+fn plays(alloc: Global, peers: &mut MemPeers, calls: &str, content: &str) -> bool {
+    let (letters, numbers) = content.split_once(' ').unwrap_or((content, ""));
     gives(alloc, peers, calls, letters.as_bytes()).unwrap_or(false)
         && counts(peers, letters.len(), numbers)
 }
 
 /// Whether calls come to what is told: `SCRIPT;FAILING;CALLS`, where `FAILING` is the number of the call that fails;
 /// and what they give, how many fail and how many entries are left.
-pub(crate) fn is_played(alloc: Global, asked: &str, told: &str) -> bool {
+pub(crate) fn is_played(alloc: Global, asked: &str, content: &str) -> bool {
     let (script, rest) = two(asked);
     let (failing, calls) = two(rest);
     match peers(alloc, script, failing.parse::<u64>().unwrap_or(0)) {
         Ok(mut peers) => {
-            let passed = plays(alloc, &mut peers, calls, told);
+            let passed = plays(alloc, &mut peers, calls, content);
             drop(peers);
             passed
         }

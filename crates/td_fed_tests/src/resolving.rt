@@ -17,7 +17,7 @@ pub(crate) fn resolves(
     group: &mut Solo,
     home: &Address,
     asked: &str,
-    told: &str,
+    content: &str,
 ) -> Result<bool, Memory> {
     if group.count() == 0 {
         return Ok(false);
@@ -26,11 +26,11 @@ pub(crate) fn resolves(
     let name = names(alloc, words)?;
     let mut peers = peers(alloc, script, 0)?;
     let answer = resolve(alloc, group, home, 0, &name, &mut peers);
-    Ok(is_answer(alloc, answer, told))
+    Ok(is_answer(alloc, answer, content))
 }
 
-fn is_answer(alloc: Global, answer: Result<NameAnswer, Memory>, told: &str) -> bool {
-    let (given, outcome) = told.split_once(' ').unwrap_or((told, ""));
+fn is_answer(alloc: Global, answer: Result<NameAnswer, Memory>, content: &str) -> bool {
+    let (given, outcome) = content.split_once(' ').unwrap_or((content, ""));
     let passed = match &answer {
         Ok(answer) => given_word(&answer.asked) == given
             && is_outcome(alloc, &answer.outcome, outcome),

@@ -1,7 +1,7 @@
 //! Peers by a script of a few words.
 
 ghost use Rattle.std.specs.Prelude.{IfOk, OnOk};
-ghost use Rattle.td_codes.specs.Values.{any_value};
+ghost use Rattle.td_typecode.specs.Values.{any_value};
 ghost use Rattle.td_peers.specs.Scripts.{IsAllowed, AreAllowed};
 ghost use Rattle.td_value.specs.Structures.{offer};
 ghost use Rattle.td_walk.specs.Peering.{IsSmallOffer, HasSmallOffers, HasWritableOffers};

@@ -9,11 +9,11 @@ use td_ops::Query;
 use td_store::Local;
 use td_trader::{Begin, Solo, Traders};
 
-fn is_served(alloc: Global, case: Case, local: Boxed<Local>, tried: &str, told: &str) -> bool {
+fn is_served(alloc: Global, case: Case, local: Boxed<Local>, tried: &str, content: &str) -> bool {
     match case {
-        Case::Visit => is_visited(alloc, local, told),
+        Case::Visit => is_visited(alloc, local, content),
         _ => {
-            let passed = passes(alloc, case, local.get(), tried, told).unwrap_or(false);
+            let passed = passes(alloc, case, local.get(), tried, content).unwrap_or(false);
             drop(local);
             passed
         }
@@ -25,11 +25,11 @@ fn is_begun(
     case: Case,
     begun: Result<Begin, Memory>,
     tried: &str,
-    told: &str,
+    content: &str,
 ) -> bool {
     match begun {
-        Ok(Begin::Search(local)) => is_served(alloc, case, local, tried, told),
-        Ok(Begin::Path(local)) => is_served(alloc, case, local, tried, told),
+        Ok(Begin::Search(local)) => is_served(alloc, case, local, tried, content),
+        Ok(Begin::Path(local)) => is_served(alloc, case, local, tried, content),
         other => {
             drop(other);
             false
@@ -44,10 +44,10 @@ pub(crate) fn begins(
     group: &mut Solo,
     query: &Shared<Query>,
     tried: &str,
-    told: &str,
+    content: &str,
 ) -> bool {
     if group.count() == 0 {
         return false;
     }
-    is_begun(alloc, case, group.begin(0, query), tried, told)
+    is_begun(alloc, case, group.begin(0, query), tried, content)
 }

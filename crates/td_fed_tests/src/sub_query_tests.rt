@@ -5,8 +5,8 @@ use std::process::Abort;
 use std::test::Fail;
 
 /// What goes over a link: one of if_no_local with always and more hops stated than there may be, others with three
-/// hops, two and one; one where not all that is passed on is stated; and at last, in front of the query, how many offers
-/// are still wanted.
+/// hops, two and one; one where not all that is passed on is stated; and at last, in front of the query, how many
+/// offers are still wanted.
 const OVER: &str =
     "A?x;;Cost < 10;random;link_follow_rule=always hop_count=99 starting_trader=x,y request_id=q \
 => hops=9 rule=if_no_local no_start own first
@@ -25,8 +25,8 @@ A>B;0;Cost < 10;random;return_card=5 hop_count=1 \
 A>B;;Cost < 10;random;return_card=5 hop_count=1 \
 => hops=0 returned=5 rule=always own first names=return_card,hop_count,link_follow_rule,request_id";
 
-/// What isn't stated is added at the end, a start elsewhere is taken out, and nothing is drawn at random there. The number
-/// of offers that are still wanted stands in the place of how many were to be returned.
+/// What isn't stated is added at the end, a start elsewhere is taken out, and nothing is drawn at random there. The
+/// number of offers that are still wanted stands in the place of how many were to be returned.
 #[test]
 fn over_a_link(rt: HostRuntime) -> Result<(), Fail> {
     check(&rt, rt.alloc(), Case::Link, OVER)
@@ -55,8 +55,8 @@ A;return_card=7;Cost < 10;;hop_count=3 return_card=9 \
 => hops=2 returned=7 no_rule own recipe";
 
 /// A proxy offer's policies: fewer hops stand and more don't, an identifier is ignored, and any other policy replaces.
-/// A rule is passed on only where one is stated. Of the offers to be returned the fewer stand, where those that are still
-/// wanted are limited.
+/// A rule is passed on only where one is stated. Of the offers to be returned the fewer stand, where those that are
+/// still wanted are limited.
 #[test]
 fn to_a_proxy(rt: HostRuntime) -> Result<(), Fail> {
     check(&rt, rt.alloc(), Case::Proxy, PASSED)

@@ -82,8 +82,8 @@ A! A= A^P;;Cost < 10;;return_card=1 =>  => 1 1
 A! A= A^P A^Q;;Cost < 10;min Cost;return_card=1 => to P: offer|to Q: offer => 1 1
 A! A= A>L A>M;;Cost < 10;;return_card=2 => to L: limit hop_count|to M: offer => 2 2 hop_count";
 
-/// Traders are asked as long as offers are wanted: each answer is counted by its offers, and one that failed or has none
-/// adds nothing. By cost all are asked.
+/// Traders are asked as long as offers are wanted: each answer is counted by its offers, and one that failed or has
+/// none adds nothing. By cost all are asked.
 #[test]
 fn traders_while_offers_are_wanted(rt: HostRuntime) -> Result<(), Fail> {
     check(&rt, rt.alloc(), Case::Visit, WANTED)

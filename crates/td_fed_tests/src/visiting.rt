@@ -134,25 +134,25 @@ fn are_limits(limits: &[Text], words: &str) -> bool {
 }
 
 /// Whether there are so many offers with so many properties, and these limits.
-fn is_answer(answer: &SubAnswer, told: &str) -> bool {
-    let (offers, rest) = told.split_once(' ').unwrap_or((told, ""));
+fn is_answer(answer: &SubAnswer, content: &str) -> bool {
+    let (offers, rest) = content.split_once(' ').unwrap_or((content, ""));
     let (properties, limits) = rest.split_once(' ').unwrap_or((rest, ""));
     offers.parse::<usize>() == Ok(answer.offers.len())
         && properties.parse::<usize>() == Ok(properties_of(answer))
         && are_limits(answer.limits.as_slice(), limits)
 }
 
-fn ends_so(alloc: Global, frame: Frame, told: &str) -> bool {
+fn ends_so(alloc: Global, frame: Frame, content: &str) -> bool {
     match finished(alloc, frame) {
-        Ok(Some(answer)) => is_answer(&answer, told),
+        Ok(Some(answer)) => is_answer(&answer, content),
         _ => false,
     }
 }
 
-fn goes_so(alloc: Global, frame: Frame, steps: &str, told: &str) -> bool {
+fn goes_so(alloc: Global, frame: Frame, steps: &str, content: &str) -> bool {
     let mut frame = frame;
     match takes_all(alloc, &mut frame, steps) {
-        Ok(true) => ends_so(alloc, frame, told),
+        Ok(true) => ends_so(alloc, frame, content),
         _ => {
             drop(frame);
             false
@@ -161,8 +161,8 @@ fn goes_so(alloc: Global, frame: Frame, steps: &str, told: &str) -> bool {
 }
 
 /// Whether a visit asks these questions, and ends with this answer behind those that it is given: `STEPS => ANSWER`.
-pub(crate) fn is_visited(alloc: Global, local: Boxed<Local>, told: &str) -> bool {
-    let (steps, end) = told.split_once(" => ").unwrap_or((told, ""));
+pub(crate) fn is_visited(alloc: Global, local: Boxed<Local>, content: &str) -> bool {
+    let (steps, end) = content.split_once(" => ").unwrap_or((content, ""));
     match Frame::new(alloc, local) {
         Ok(frame) => goes_so(alloc, frame, steps, end),
         Err(_) => false,

@@ -45,8 +45,8 @@ fn shows(trace: &Trace, expected: &[u8]) -> bool {
 }
 
 /// Whether a visit came to so many offers and limits.
-fn came_to(visit: Result<Visit, Memory>, told: &str) -> bool {
-    let (offers, limits) = told.split_once(' ').unwrap_or((told, ""));
+fn came_to(visit: Result<Visit, Memory>, content: &str) -> bool {
+    let (offers, limits) = content.split_once(' ').unwrap_or((content, ""));
     let passed = match &visit {
         Ok(Visit::Answered { answer, .. }) => offers.parse::<usize>() == Ok(answer.offers.len())
             && limits.parse::<usize>() == Ok(answer.limits.len()),
@@ -62,7 +62,7 @@ fn visits(
     home: &Address,
     query: &Shared<Query>,
     script: &str,
-    told: &str,
+    content: &str,
 ) -> Result<bool, Memory> {
     if group.count() == 0 {
         return Ok(false);
@@ -75,7 +75,7 @@ fn visits(
     let visit = visit(
         alloc, group, home, 0, query, &mut peers, &mut words, &mut trace,
     );
-    let (letters, counts) = told.split_once(' ').unwrap_or((told, ""));
+    let (letters, counts) = content.split_once(' ').unwrap_or((content, ""));
     Ok(came_to(visit, counts) && shows(&trace, letters.as_bytes()))
 }
 
@@ -87,9 +87,9 @@ pub(crate) fn walks(
     home: &Address,
     query: &Shared<Query>,
     script: &str,
-    told: &str,
+    content: &str,
 ) -> bool {
-    for part in told.split(',') {
+    for part in content.split(',') {
         if !visits(alloc, group, home, query, script, part).unwrap_or(false) {
             return false;
         }

@@ -1,6 +1,6 @@
 //! Texts, references, policies and queries from words.
 
-ghost use Rattle.td_codes.specs.References.{reference};
+ghost use Rattle.td_typecode.specs.References.{reference};
 
 use std::alloc::Global;
 use td_cdr::{List, Memory, Shared, Text};

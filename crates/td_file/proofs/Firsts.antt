@@ -12,42 +12,42 @@ use Rattle.td_ops.specs.declared.call.Change.{Change}
 use Rattle.td_ops.specs.declared.outcome.Outcome.{Outcome}
 use Rattle.td_ops.specs.declared.outcome.Outcome.TheVariants.{Done, User, System}
 use Rattle.td_ops.specs.declared.outcome.Reply.{Reply}
-use Rattle.td_register.specs.Causes.{Applied}
+use Rattle.td_register.specs.Causes.{Effect}
 use Rattle.td_register.specs.Entries.{entry}
 use Rattle.td_register.specs.Stores.{Store}
 use Rattle.td_register.specs.declared.history.Accepted.{Accepted}
 use Rattle.td_walk.specs.declared.trace.Address.{Address}
-use Rattle.td_file.specs.Laws.{AcceptedEntriesAreDone, AreAccepted, FirstRefusedIsTold, IsBehind, IsFirstRefused}
+use Rattle.td_file.specs.Laws.{AcceptedEntriesAreDone, AreAccepted, FirstRefusedIsAnswered, IsBehind, IsFirstRefused}
 use Rattle.td_file.specs.Laws.{StoresAreBehind, changes_in, changes_of}
-use Rattle.td_file.specs.Openings.{behind, change_of, entered, store_after}
+use Rattle.td_file.specs.Openings.{behind, change_of, apply_entry, store_after}
 
 -- ---- one entry
 
 record Passes (o : Outcome) (after next : Store) : Type 0 where
-  pub told : Reply
-  pub same : o ≡ Done told
+  pub content : Reply
+  pub same : o ≡ Done content
   pub store : after ≡ next
 
 record Stops (n : ℕ) (o : Outcome) (refused : Refused) : Type 0 where
   pub line : refused ≡ refusal n Rejected
   pub not_done : is_done o ≡ false
 
-abbrev with_outcome : Outcome → Store → Applied
+abbrev with_outcome : Outcome → Store → Effect
 with_outcome o after = record { outcome = o; store = after }
 
-passed : (n : ℕ) (o : Outcome) (after next : Store) → entered n (with_outcome o after) ≡ Ok next → Passes o after next
-passed n (Done told) after next e = record { told = told; same = refl; store = cc }
+passed : (n : ℕ) (o : Outcome) (after next : Store) → apply_entry n (with_outcome o after) ≡ Ok next → Passes o after next
+passed n (Done content) after next e = record { content = content; same = refl; store = cc }
 passed n (User x) after next e = absurd (let bad : ⊥ = cc in bad)
 passed n (System kind minor completion) after next e = absurd (let bad : ⊥ = cc in bad)
 
-stopped : (n : ℕ) (o : Outcome) (after : Store) (refused : Refused) → entered n (with_outcome o after) ≡ Err refused
+stopped : (n : ℕ) (o : Outcome) (after : Store) (refused : Refused) → apply_entry n (with_outcome o after) ≡ Err refused
     → Stops n o refused
-stopped n (Done told) after refused e = absurd (let bad : ⊥ = cc in bad)
+stopped n (Done content) after refused e = absurd (let bad : ⊥ = cc in bad)
 stopped n (User x) after refused e = record { line = cc; not_done = refl }
 stopped n (System kind minor completion) after refused e = record { line = cc; not_done = refl }
 
-entered-done : (n : ℕ) (a : Applied) (told : Reply) → a.outcome ≡ Done told → entered n a ≡ Ok a.store
-entered-done n a told e = ap (λ (o : Outcome). entered n (with_outcome o a.store)) e
+entered-done : (n : ℕ) (a : Effect) (content : Reply) → a.outcome ≡ Done content → apply_entry n a ≡ Ok a.store
+entered-done n a content e = ap (λ (o : Outcome). apply_entry n (with_outcome o a.store)) e
 
 -- ---- a history
 
@@ -62,7 +62,7 @@ unfolding after_all
 one-behind home one others s next after p rest =
     let c = change_of home one.entry in
     record {
-      history = entry c p.told ∷ rest.history;
+      history = entry c p.content ∷ rest.history;
       changes = ap (λ (cs : List Change). c ∷ cs) rest.changes;
       accepted = (p.same, subst (λ (t : Store). AreAccepted t rest.history) (sym p.store) rest.accepted);
       store = ap (λ (t : Store). after_all t rest.history) p.store ∙ rest.store;
@@ -73,8 +73,8 @@ passes-one : (home : Address) (s : Store) (one : Numbered) (next : Store) → be
 passes-one home s one next e =
     let a = apply s (change_of home one.entry) in passed one.line a.outcome a.store next e
 
-behind-step : (home : Address) (one : Numbered) (others : List Numbered) (s after : Store) (told : Result Store Refused)
-    → behind home s one ≡ told → (told >>= λ more. store_after home more others) ≡ Ok after
+behind-step : (home : Address) (one : Numbered) (others : List Numbered) (s after : Store) (content : Result Store Refused)
+    → behind home s one ≡ content → (content >>= λ more. store_after home more others) ≡ Ok after
     → ((next : Store) → store_after home next others ≡ Ok after → IsBehind home next others after)
     → IsBehind home s (one ∷ others) after
 behind-step home one others s after (Ok next) e h more =
@@ -98,9 +98,9 @@ done-step : (home : Address) (one : Numbered) (others : List Numbered) (s : Stor
     → store_after home s (one ∷ others) ≡ store_after home (apply s e.change).store others
 done-step home one others s e same is =
     let here : behind home s one ≡ Ok (apply s e.change).store =
-    ap (λ (c : Change). entered one.line (apply s c)) (sym same)
+    ap (λ (c : Change). apply_entry one.line (apply s c)) (sym same)
     ∙ entered-done one.line (apply s e.change) e.reply is in
-    ap (λ (told : Result Store Refused). told >>= λ more. store_after home more others) here
+    ap (λ (content : Result Store Refused). content >>= λ more. store_after home more others) here
 
 done-all : (home : Address) (entries : List Numbered) (s after : Store) (history : List Accepted)
     → changes_in history ≡ changes_of home entries → AreAccepted s history → after_all s history ≡ after
@@ -134,8 +134,8 @@ later-refused home one others s next refused e rest = record {
 }
 
 first-step : (home : Address) (one : Numbered) (others : List Numbered) (s : Store) (refused : Refused)
-    (told : Result Store Refused) → behind home s one ≡ told
-    → (told >>= λ more. store_after home more others) ≡ Err refused
+    (content : Result Store Refused) → behind home s one ≡ content
+    → (content >>= λ more. store_after home more others) ≡ Err refused
     → ((next : Store) → store_after home next others ≡ Err refused → IsFirstRefused home next others refused)
     → IsFirstRefused home s (one ∷ others) refused
 first-step home one others s refused (Ok next) e h more =
@@ -162,5 +162,5 @@ first-refused home (one ∷ others) s refused e =
     first-step home one others s refused (behind home s one) refl e
     (λ (next : Store) h. first-refused home others next refused h)
 
-pub first : FirstRefusedIsTold
+pub first : FirstRefusedIsAnswered
 first home s entries refused e = first-refused home entries s refused e

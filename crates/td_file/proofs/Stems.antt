@@ -10,7 +10,7 @@ use Rattle.td_lines.specs.declared.cause.LineCause.TheVariants.{Rejected}
 use Rattle.td_lines.specs.declared.entry.Numbered.{Numbered}
 use Rattle.td_lines.specs.declared.entry.Refused.{Refused}
 use Rattle.td_register.specs.Stores.{Store}
-use Rattle.td_types.specs.Repository.{Declared}
+use Rattle.td_types.specs.Repository.{InterfaceBases}
 use Rattle.td_walk.specs.declared.trace.Address.{Address}
 use Rattle.td_file.specs.Openings.{behind, change_of, new_store, store_after}
 
@@ -41,8 +41,8 @@ stays-behind home s one h =
     stays-if (apply s c).store (refusal one.line Rejected) (is_done (apply s c).outcome)
     (applied_keeps IsShort short-step s c h)
 
-stays-on : (told : Result Store Refused) (f : Store → Result Store Refused) → Stays told
-    → ((s : Store) → IsShort s → Stays (f s)) → Stays (told >>= f)
+stays-on : (content : Result Store Refused) (f : Store → Result Store Refused) → Stays content
+    → ((s : Store) → IsShort s → Stays (f s)) → Stays (content >>= f)
 stays-on (Ok s) f h k = k s h
 stays-on (Err refused) f h k = tt
 
@@ -52,13 +52,13 @@ stays home s (one ∷ others) h =
     stays-on (behind home s one) (λ (more : Store). store_after home more others) (stays-behind home s one h)
     (λ (more : Store) k. stays home more others k)
 
-short-new : (home : Address) (name : List ℕ) (interfaces : Declared) → length name ≤ 32
+short-new : (home : Address) (name : List ℕ) (interfaces : InterfaceBases) → length name ≤ 32
     → IsShort (new_store home name interfaces)
 unfolding new_store
 short-new home name interfaces h = omega (arith, h)
 
 -- the stem of an opening store: the name, or what a line has set
-pub short_stem : (home : Address) (name : List ℕ) (interfaces : Declared) (entries : List Numbered) (s : Store)
+pub short_stem : (home : Address) (name : List ℕ) (interfaces : InterfaceBases) (entries : List Numbered) (s : Store)
     → length name ≤ 32 → store_after home (new_store home name interfaces) entries ≡ Ok s
     → length s.attributes.request_id_stem ≤ 64
 short_stem home name interfaces entries s h e =

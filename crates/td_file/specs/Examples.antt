@@ -24,5 +24,5 @@ lists_of_seven =
 
 -- how long each trader's lists are
 abbrev pub lists_in : Result Opening Refused → Result (List ℕ) Refused
-lists_in told = told >>= λ o.
+lists_in content = content >>= λ o.
     Ok (map (λ (t : PlainTrader). t.opening.attributes.max_list) o.traders)

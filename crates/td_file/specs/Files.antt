@@ -12,7 +12,7 @@ use Rattle.td_lines.specs.declared.entry.TraderScript.{TraderScript}
 use Rattle.td_trader.specs.PlainTraders.{PlainTrader}
 use Rattle.td_walk.specs.declared.trace.Address.{Address}
 use Rattle.td_file.specs.Openings.{all_traders, later_refusal, missing_in}
-use Rattle.td_file.specs.Stages.{Refuses}
+use Rattle.td_file.specs.Stages.{IsRefusedFor}
 use Rattle.td_file.specs.declared.fault.FileFault.{FileFault}
 use Rattle.td_file.specs.declared.reading.Opened.{Opened}
 
@@ -36,9 +36,9 @@ unless_refused (Some refused) o = Err refused
 -- at this address
 abbrev pub opening_at : Address → List ℕ → List TraderScript → Option Refused
     → Result Opening Refused
-opening_at home seed told refused =
-    all_traders home told >>= λ traders.
-    unless_refused (later_refusal refused (missing_in told told)) (opening home seed traders)
+opening_at home seed content refused =
+    all_traders home content >>= λ traders.
+    unless_refused (later_refusal refused (missing_in content content)) (opening home seed traders)
 
 -- a file without an address lacks it in its first line, where no line is refused
 abbrev pub or_place : Option Refused → Refused
@@ -59,7 +59,7 @@ opening_of text = opening_with (script_of text) (script_of text).home
 abbrev pub seen : Opened → Opening
 seen o = record { home = o.home; seed = o.seed; traders = o.solo.traders.items }
 
--- exactly what the file opens, or the refusal; want of memory says nothing
-abbrev pub Answers : Result Opening Refused → Result Opened FileFault → Type 0
-Answers told (Ok o) = told ≡ Ok (seen o)
-Answers told (Err fault) = Refuses told fault
+-- exactly what the file opens, or the refusal; running out of memory says nothing
+abbrev pub OpensOrRefuses : Result Opening Refused → Result Opened FileFault → Type 0
+OpensOrRefuses content (Ok o) = content ≡ Ok (seen o)
+OpensOrRefuses content (Err fault) = IsRefusedFor content fault

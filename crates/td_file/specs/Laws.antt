@@ -59,7 +59,7 @@ AcceptedEntriesAreDone =
     (home : Address) (s : Store) (entries : List Numbered) (after : Store)
     → IsBehind home s entries after → store_after home s entries ≡ Ok after
 
-abbrev pub FirstRefusedIsTold : Type 0
-FirstRefusedIsTold =
+abbrev pub FirstRefusedIsAnswered : Type 0
+FirstRefusedIsAnswered =
     (home : Address) (s : Store) (entries : List Numbered) (refused : Refused)
     → store_after home s entries ≡ Err refused → IsFirstRefused home s entries refused

@@ -9,8 +9,8 @@ use Rattle.td_changes.specs.Histories.{is_done}
 use Rattle.td_changes.specs.declared.bounds.Bounds.{Bounds}
 use Rattle.td_lines.specs.Steps.{refusal}
 use Rattle.td_lines.specs.declared.cause.LineCause.TheVariants.{Name, Rejected}
-use Rattle.td_lines.specs.declared.entry.Entry.{Entry}
-use Rattle.td_lines.specs.declared.entry.Entry.TheVariants as entry
+use Rattle.td_lines.specs.declared.entry.FileEntry.{FileEntry}
+use Rattle.td_lines.specs.declared.entry.FileEntry.TheVariants as entry
 use Rattle.td_lines.specs.declared.entry.Numbered.{Numbered}
 use Rattle.td_lines.specs.declared.entry.Refused.{Refused}
 use Rattle.td_lines.specs.declared.entry.TraderScript.{TraderScript}
@@ -18,10 +18,10 @@ use Rattle.td_objects.specs.References.{lookup_reference, register_reference, tr
 use Rattle.td_ops.specs.declared.call.Change.{Change}
 use Rattle.td_ops.specs.declared.call.Change.TheVariants.{AddLink}
 use Rattle.td_policy.specs.Attributes.{default_attributes}
-use Rattle.td_register.specs.Causes.{Applied}
+use Rattle.td_register.specs.Causes.{Effect}
 use Rattle.td_register.specs.Stores.{Store}
-use Rattle.td_trader.specs.PlainTraders.{PlainTrader, opened}
-use Rattle.td_types.specs.Repository.{Declared}
+use Rattle.td_trader.specs.PlainTraders.{PlainTrader, new_trader}
+use Rattle.td_types.specs.Repository.{InterfaceBases}
 use Rattle.td_value.specs.declared.enumerations.FollowOption.{FollowOption}
 use Rattle.td_walk.specs.declared.trace.Address.{Address}
 
@@ -29,7 +29,7 @@ use Rattle.td_walk.specs.declared.trace.Address.{Address}
 
 -- A new trader's store: no types but the declared interfaces, no offers, no links, and the attributes as they are where
 -- nothing is set.
-unfoldable pub new_store : Address → (name : List ℕ) → Declared → Store
+unfoldable pub new_store : Address → (name : List ℕ) → InterfaceBases → Store
 new_store home name interfaces = record {
   types = record { types = []; interfaces = interfaces; last = 0 };
   offers = [];
@@ -46,18 +46,18 @@ link_to home name trader def_pass_on limiting =
     (Some (register_reference home trader))
 
 -- the change that an entry asks for
-abbrev pub change_of : Address → Entry → Change
+abbrev pub change_of : Address → FileEntry → Change
 change_of home (entry.Change c) = c
 change_of home (entry.Link name trader def_pass_on limiting) = link_to home name trader def_pass_on
     limiting
 
 -- the store behind the entry of line n, where the operation doesn't refuse it
-abbrev pub entered : ℕ → Applied → Result Store Refused
-entered n a = if is_done a.outcome then Ok a.store else Err (refusal n Rejected)
+abbrev pub apply_entry : ℕ → Effect → Result Store Refused
+apply_entry n a = if is_done a.outcome then Ok a.store else Err (refusal n Rejected)
 
 -- the store behind an entry
 abbrev pub behind : Address → Store → Numbered → Result Store Refused
-behind home s one = entered one.line (apply s (change_of home one.entry))
+behind home s one = apply_entry one.line (apply s (change_of home one.entry))
 
 -- the store behind these entries, or the first of them that is refused
 abbrev pub store_after : Address → Store → List Numbered → Result Store Refused
@@ -75,7 +75,7 @@ opening_store home t = store_after home (new_store home t.name t.interfaces) t.e
 
 -- a trader in its opening store, with an empty history and no marks
 abbrev pub trader_of : Address → TraderScript → Result PlainTrader Refused
-trader_of home t = opening_store home t >>= λ s. Ok (opened t.name s bounds)
+trader_of home t = opening_store home t >>= λ s. Ok (new_trader t.name s bounds)
 
 -- these traders, or the first of their entries that is refused
 abbrev pub all_traders : Address → List TraderScript → Result (List PlainTrader) Refused
@@ -87,15 +87,15 @@ abbrev pub names_in : List TraderScript → List (List ℕ)
 names_in ts = map (λ (t : TraderScript). t.name) ts
 
 -- no two have one name
-abbrev pub AreApart : List TraderScript → Type 0
-AreApart ts = IsDistinct bytes_eq (names_in ts)
+abbrev pub HaveDistinctNames : List TraderScript → Type 0
+HaveDistinctNames ts = IsDistinct bytes_eq (names_in ts)
 
 -- ---- links to traders that the file doesn't have
 
 abbrev pub is_known : List ℕ → List TraderScript → Bool
 is_known name traders = list_any (λ (t : TraderScript). bytes_eq name t.name) traders
 
-abbrev pub is_missing : List TraderScript → Entry → Bool
+abbrev pub is_missing : List TraderScript → FileEntry → Bool
 is_missing all (entry.Change c) = false
 is_missing all (entry.Link name trader def_pass_on limiting) = not (is_known trader all)
 

@@ -4,7 +4,7 @@ ghost use Rattle.std.specs.Prelude.{◌≡◌, IfOk, OnOk};
 ghost use Rattle.td_changes.specs.Applying.{apply};
 ghost use Rattle.td_changes.specs.Histories.{is_done};
 ghost use Rattle.td_file.specs.Openings.{behind, change_of, link_to, store_after};
-ghost use Rattle.td_file.specs.Stages.{Enters};
+ghost use Rattle.td_file.specs.Stages.{StoresOrRefuses};
 ghost use Rattle.td_objects.specs.References.{IsAddress};
 ghost use Rattle.td_trader.specs.OfferLimits.{HasLimitedOffers};
 
@@ -12,7 +12,7 @@ use crate::fault::FileFault;
 use std::alloc::Global;
 use td_cdr::{Boxed, List, Memory, Text};
 use td_changes::apply;
-use td_lines::{Entry, LineCause, Numbered};
+use td_lines::{FileEntry, LineCause, Numbered};
 use td_objects::lookup_and_register;
 use td_ops::{Change, Outcome};
 use td_store::Store;
@@ -42,13 +42,13 @@ fn link_to(
 }
 
 /// The change that an entry asks for.
-fn change_of(alloc: Global, home: &Address, entry: Entry) -> Result<Change, Memory>
+fn change_of(alloc: Global, home: &Address, entry: FileEntry) -> Result<Change, Memory>
     requires { IsAddress home.now }
     ensures { IfOk result (λ c. c ≡ change_of home.now entry) }
 {
     match entry {
-        Entry::Change(change) => Ok(change),
-        Entry::Link {
+        FileEntry::Change(change) => Ok(change),
+        FileEntry::Link {
             name,
             trader,
             def_pass_on,
@@ -72,7 +72,7 @@ fn is_done(outcome: &Outcome) -> bool
 #[tactic(auto, using(td_trader::proofs::KeepingLimits::limited_applied, td_trader::proofs::KeepingLimits::limited_same))]
 fn is_applied(alloc: Global, store: &mut Store, change: Change) -> Result<bool, Memory>
     requires { HasLimitedOffers store.old }
-    ensures told { IfOk result (λ b. b ≡ is_done (apply store.old change).outcome) }
+    ensures content { IfOk result (λ b. b ≡ is_done (apply store.old change).outcome) }
     ensures after { OnOk result (store.new ≡ (apply store.old change).store) }
     ensures limited { HasLimitedOffers store.new }
 {
@@ -86,7 +86,7 @@ fn is_applied(alloc: Global, store: &mut Store, change: Change) -> Result<bool, 
 fn enter(alloc: Global, home: &Address, store: &mut Store, one: Numbered) -> Result<(), FileFault>
     requires home { IsAddress home.now }
     requires limited { HasLimitedOffers store.old }
-    ensures enters { Enters (behind home.now store.old one) store.new result }
+    ensures enters { StoresOrRefuses (behind home.now store.old one) store.new result }
     ensures limited { HasLimitedOffers store.new }
 {
     let Numbered { line, entry } = one;
@@ -107,7 +107,7 @@ pub(crate) fn enter_all(
 ) -> Result<(), FileFault>
     requires home { IsAddress home.now }
     requires limited { HasLimitedOffers store.old }
-    ensures enters { Enters (store_after home.now store.old entries) store.new result }
+    ensures enters { StoresOrRefuses (store_after home.now store.old entries) store.new result }
     ensures limited { HasLimitedOffers store.new }
 {
     for one in entries.into_vec() {

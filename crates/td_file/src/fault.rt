@@ -12,15 +12,15 @@ pub enum FileFault {
     /// An entry is refused: the number, counted from 1, of its first line, and why.
     #[error("line {0}: {1}")]
     Line(u32, LineCause),
-    /// Want of memory.
+    /// Out of memory.
     #[error("there is no memory left")]
     Memory,
 }
 
 impl From<Memory> for FileFault {
-    ghost use Rattle.td_file.specs.declared.fault.FileFault.TheVariants.{Memory as WantOfMemory};
+    ghost use Rattle.td_file.specs.declared.fault.FileFault.TheVariants.{Memory as MemoryFault};
 
-    ghost from_gives = { λ _ e. e ≡ WantOfMemory };
+    ghost from_gives = { λ _ e. e ≡ MemoryFault };
 
     fn from(_e: Memory) -> FileFault {
         FileFault::Memory

@@ -3,7 +3,7 @@
 ghost use Rattle.std.specs.Prelude.{◌≡◌, [], ◌∷◌, Ok, Err};
 ghost use Rattle.td_file.specs.Examples.{lists_in, lists_of_seven, type_twice, type_twice_and_more};
 ghost use Rattle.td_file.specs.Files.{opening_of};
-ghost use Rattle.td_file.specs.Laws.{AcceptedEntriesAreDone, FirstRefusedIsTold, StoresAreBehind};
+ghost use Rattle.td_file.specs.Laws.{AcceptedEntriesAreDone, FirstRefusedIsAnswered, StoresAreBehind};
 ghost use Rattle.td_lines.specs.Steps.{refusal};
 ghost use Rattle.td_lines.specs.declared.cause.LineCause.TheVariants.{Rejected};
 
@@ -12,7 +12,7 @@ ghost use Rattle.td_lines.specs.declared.cause.LineCause.TheVariants.{Rejected};
 pub fn entries_are_changes()
     ensures behind { StoresAreBehind }
     ensures accepted { AcceptedEntriesAreDone }
-    ensures refused { FirstRefusedIsTold }
+    ensures refused { FirstRefusedIsAnswered }
 {}
 
 /// Worked examples: the second of two types of one name is refused at its line, in front of a line that is none too; a

@@ -2,10 +2,11 @@
 
 ghost use Rattle.std.specs.Prelude.{◌≡◌, ◌≤◌, ◌<◌, ◌^◌, length, IfOk, None, Err};
 ghost use Rattle.td_cdr.specs.Text.{HasNoNul};
-ghost use Rattle.td_file.specs.Files.{Answers, home_address, opening, opening_at, opening_of, opening_with, or_place};
+ghost use Rattle.td_file.specs.Files.{OpensOrRefuses, home_address, opening, opening_at, opening_of, opening_with};
+ghost use Rattle.td_file.specs.Files.{or_place};
 ghost use Rattle.td_file.specs.Files.{unless_refused};
-ghost use Rattle.td_file.specs.Openings.{AreApart, later_refusal};
-ghost use Rattle.td_lines.specs.Laws.{AreShort, IsSound};
+ghost use Rattle.td_file.specs.Openings.{HaveDistinctNames, later_refusal};
+ghost use Rattle.td_lines.specs.Laws.{AreShort, IsValidScript};
 ghost use Rattle.td_objects.specs.References.{IsAddress};
 ghost use Rattle.td_trader.specs.Solos.{AreDistinct};
 
@@ -60,7 +61,7 @@ fn open_unless(
     traders: List<Trader>,
 ) -> Result<Opened, FileFault>
     requires { AreDistinct traders }
-    ensures { Answers (unless_refused later (opening home seed traders)) result }
+    ensures { OpensOrRefuses (unless_refused later (opening home seed traders)) result }
 {
     match later {
         Some(Refused { line, cause }) => Err(FileFault::Line(line, cause)),
@@ -79,16 +80,16 @@ fn open_at(
     alloc: Global,
     home: Address,
     seed: Octets,
-    told: List<TraderScript>,
+    content: List<TraderScript>,
     refused: Option<Refused>,
 ) -> Result<Opened, FileFault>
     requires home { IsAddress home }
-    requires short { AreShort told }
-    requires distinct { AreApart told }
-    ensures { Answers (opening_at home seed told refused) result }
+    requires short { AreShort content }
+    requires distinct { HaveDistinctNames content }
+    ensures { OpensOrRefuses (opening_at home seed content refused) result }
 {
-    let later = later_refusal(refused, missing_in(told.as_slice(), told.as_slice()));
-    match open_all(alloc, &home, told) {
+    let later = later_refusal(refused, missing_in(content.as_slice(), content.as_slice()));
+    match open_all(alloc, &home, content) {
         Ok(traders) => open_unless(later, home, seed, traders),
         Err(fault) => Err(fault),
     }
@@ -111,7 +112,7 @@ fn home_address(home: Home) -> Address
 
 /// Why a file without an address is refused.
 fn without_home(refused: Option<Refused>) -> Result<Opened, FileFault>
-    ensures { Answers (Err (or_place refused)) result }
+    ensures { OpensOrRefuses (Err (or_place refused)) result }
 {
     match refused {
         Some(Refused { line, cause }) => Err(FileFault::Line(line, cause)),
@@ -121,8 +122,8 @@ fn without_home(refused: Option<Refused>) -> Result<Opened, FileFault>
 
 /// What the lines of a file open.
 fn open_script(alloc: Global, script: Script) -> Result<Opened, FileFault>
-    requires { IsSound script }
-    ensures { Answers (opening_with script script.home) result }
+    requires { IsValidScript script }
+    ensures { OpensOrRefuses (opening_with script script.home) result }
 {
     let Script {
         home,
@@ -142,10 +143,10 @@ fn open_script(alloc: Global, script: Script) -> Result<Opened, FileFault>
 /// # Errors
 ///
 /// `Line` exactly where an entry of the file is refused: the first line of the first one, and why. A link to a
-/// trader that the file doesn't have is refused last. `Memory` for want of memory.
+/// trader that the file doesn't have is refused last. `Memory` when out of memory.
 pub fn read_file(alloc: Global, text: &[u8]) -> Result<Opened, FileFault>
     requires { length text.now < 2 ^ 32 }
-    ensures answers { Answers (opening_of text.now) result }
+    ensures answers { OpensOrRefuses (opening_of text.now) result }
     ensures address { IfOk result (λ o. IsAddress o.home) }
     ensures seed { IfOk result (λ o. length o.seed ≡ 32) }
 {

@@ -2,11 +2,11 @@
 
 ghost use Rattle.std.specs.Prelude.{◌≡◌, ◌≤◌, length, IfOk};
 ghost use Rattle.td_file.specs.Openings.{all_traders, bounds, new_store, store_after, trader_of};
-ghost use Rattle.td_file.specs.Stages.{Gives};
+ghost use Rattle.td_file.specs.Stages.{GivesOrRefuses};
 ghost use Rattle.td_lines.specs.Laws.{AreShort};
 ghost use Rattle.td_objects.specs.References.{IsAddress};
 ghost use Rattle.td_trader.specs.OfferLimits.{HasLimitedOffers};
-ghost use Rattle.td_trader.specs.PlainTraders.{opened};
+ghost use Rattle.td_trader.specs.PlainTraders.{new_trader};
 
 use crate::entering::enter_all;
 use crate::fault::FileFault;
@@ -39,7 +39,8 @@ fn store_of(
     entries: List<Numbered>,
 ) -> Result<Store, FileFault>
     requires { IsAddress home.now }
-    ensures gives { Gives (store_after home.now (new_store home.now name.now interfaces) entries)
+    ensures gives { GivesOrRefuses (store_after home.now (new_store home.now name.now interfaces)
+        entries)
         result }
     ensures limited { IfOk result HasLimitedOffers }
 {
@@ -57,7 +58,7 @@ fn store_of(
 fn trader_in(alloc: Global, name: Text, store: Store) -> Result<Trader, Memory>
     requires limited { HasLimitedOffers store }
     requires stem { length store.attributes.request_id_stem ≤ 64 }
-    ensures { IfOk result (λ t. t ≡ opened name store bounds) }
+    ensures { IfOk result (λ t. t ≡ new_trader name store bounds) }
 {
     match store.attributes.request_id_stem.copy(alloc) {
         Ok(stem) => Trader::new(alloc, name, store, stem, bounds()),
@@ -70,16 +71,16 @@ fn trader_in(alloc: Global, name: Text, store: Store) -> Result<Trader, Memory>
 }
 
 /// A trader of the file.
-fn open_trader(alloc: Global, home: &Address, told: TraderScript) -> Result<Trader, FileFault>
+fn open_trader(alloc: Global, home: &Address, content: TraderScript) -> Result<Trader, FileFault>
     requires home { IsAddress home.now }
-    requires short { length told.name ≤ 32 }
-    ensures { Gives (trader_of home.now told) result }
+    requires short { length content.name ≤ 32 }
+    ensures { GivesOrRefuses (trader_of home.now content) result }
 {
     let TraderScript {
         name,
         interfaces,
         entries,
-    } = told;
+    } = content;
     match store_of(alloc, home, &name, interfaces, entries) {
         Ok(store) => Ok(trader_in(alloc, name, store)?),
         Err(fault) => Err(fault),
@@ -90,14 +91,14 @@ fn open_trader(alloc: Global, home: &Address, told: TraderScript) -> Result<Trad
 pub(crate) fn open_all(
     alloc: Global,
     home: &Address,
-    told: List<TraderScript>,
+    content: List<TraderScript>,
 ) -> Result<List<Trader>, FileFault>
     requires home { IsAddress home.now }
-    requires short { AreShort told }
-    ensures { Gives (all_traders home.now told) result }
+    requires short { AreShort content }
+    ensures { GivesOrRefuses (all_traders home.now content) result }
 {
     let mut traders = List::new(alloc);
-    for one in told.into_vec() {
+    for one in content.into_vec() {
         let trader = open_trader(alloc, home, one)?;
         traders.push(trader)?;
     }

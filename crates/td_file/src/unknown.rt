@@ -3,7 +3,7 @@
 ghost use Rattle.std.specs.Prelude.{◌≡◌};
 ghost use Rattle.td_file.specs.Openings.{is_known, is_missing, missing_among, missing_in};
 
-use td_lines::{Entry, Numbered, TraderScript};
+use td_lines::{FileEntry, Numbered, TraderScript};
 
 /// Whether a trader of the file has this name.
 fn is_known(name: &[u8], traders: &[TraderScript]) -> bool
@@ -13,12 +13,12 @@ fn is_known(name: &[u8], traders: &[TraderScript]) -> bool
 }
 
 /// Whether an entry links to a trader that the file doesn't have.
-fn is_missing(traders: &[TraderScript], entry: &Entry) -> bool
+fn is_missing(traders: &[TraderScript], entry: &FileEntry) -> bool
     ensures { result ≡ is_missing traders.now entry.now }
 {
     match entry {
-        Entry::Change(_) => false,
-        Entry::Link { trader, .. } => !is_known(trader.as_slice(), traders),
+        FileEntry::Change(_) => false,
+        FileEntry::Link { trader, .. } => !is_known(trader.as_slice(), traders),
     }
 }
 

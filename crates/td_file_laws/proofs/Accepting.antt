@@ -19,19 +19,20 @@ use Rattle.td_cdr.specs.Sound.{text, sequence}
 use Rattle.td_cdr.specs.Text.{HasNoNul}
 use Rattle.td_cdr.specs.declared.order.Order.{Order}
 use Rattle.td_cdr.specs.declared.order.Order.TheVariants.{Big}
-use Rattle.td_codes.specs.References.{reference}
-use Rattle.td_codes.specs.Values.{any_value}
-use Rattle.td_codes.specs.declared.reference.Ior.{Ior}
+use Rattle.td_typecode.specs.References.{reference}
+use Rattle.td_typecode.specs.Values.{any_value}
+use Rattle.td_typecode.specs.declared.reference.Ior.{Ior}
 use Rattle.td_exceptions.specs.declared.exception.UserException.TheVariants as user
 use Rattle.td_exceptions.specs.declared.exception.UserException.{UserException}
-use Rattle.td_lines.specs.Told.{AreToldProperties, IsToldOffer, IsToldRegister}
+use Rattle.td_lines.specs.Parsing.{AreParsedProperties, IsParsedOffer, IsParsedRegister}
 use Rattle.td_ops.specs.declared.call.Change.TheVariants as change
 use Rattle.td_ops.specs.declared.outcome.Reply.TheVariants as reply
 use Rattle.td_ops.specs.declared.outcome.Reply.{Reply}
-use Rattle.td_register.specs.Causes.{Cause, Found, applied, given, limit_if, raise, raise_if, there, unless}
+use Rattle.td_register.specs.Causes.{Cause, OrRefusal, effect_of, with_cause, limit_if, raise, raise_if, there, unless}
 use Rattle.td_register.specs.Causes.{◌otherwise◌}
-use Rattle.td_register.specs.Named.{open_type, unmasked}
-use Rattle.td_register.specs.Properties.{encoded, is_too_large, missing, missing_cause, name_cause, properties_cause}
+use Rattle.td_register.specs.Named.{open_type, if_unmasked}
+use Rattle.td_register.specs.Properties.{encoded_size, is_too_large, missing_property, missing_cause, name_cause}
+use Rattle.td_register.specs.Properties.{properties_cause}
 use Rattle.td_register.specs.Properties.{value_cause}
 use Rattle.td_register.specs.Registers.{interface_cause, no_more, offer_cause}
 use Rattle.td_register.specs.Stores.{Store}
@@ -98,28 +99,28 @@ identifier-clean (b ∷ bs) h =
 
 -- ---- what was accepted has no cause
 
-done-none : (s : Store) (cause : Cause) (told : Reply) (after : Store)
-    → is_done (applied s (unless cause told after)).outcome ≡ true → cause ≡ None
-done-none s None told after h = refl
-done-none s (Some (Raised e)) told after h = absurd (let bad : ⊥ = cc in bad)
-done-none s (Some NotSupported) told after h = absurd (let bad : ⊥ = cc in bad)
-done-none s (Some Limit) told after h = absurd (let bad : ⊥ = cc in bad)
+done-none : (s : Store) (cause : Cause) (content : Reply) (after : Store)
+    → is_done (effect_of s (unless cause content after)).outcome ≡ true → cause ≡ None
+done-none s None content after h = refl
+done-none s (Some (Raised e)) content after h = absurd (let bad : ⊥ = cc in bad)
+done-none s (Some NotSupported) content after h = absurd (let bad : ⊥ = cc in bad)
+done-none s (Some Limit) content after h = absurd (let bad : ⊥ = cc in bad)
 
 none-of : (s : Store) (c : Change) → is_done (apply s c).outcome ≡ true → cause_of s c ≡ None
 unfolding comes_to
 none-of s c h = done-none s (cause_of s c) (acceptance s c) (with_change s c) h
 
-open-when : (b : Bool) (found : Found ServiceType) (e : UserException) (cause : ServiceType → Cause)
-    → given (cond b found (raise e)) cause ≡ None → b ≡ true
+open-when : (b : Bool) (found : OrRefusal ServiceType) (e : UserException) (cause : ServiceType → Cause)
+    → with_cause (cond b found (raise e)) cause ≡ None → b ≡ true
 open-when true found e cause h = refl
 open-when false found e cause h = absurd (let bad : ⊥ = cc in bad)
 
 -- the name of a type for a new offer
 open-named : (types : List ServiceType) (name : List ℕ) (cause : ServiceType → Cause)
-    → given (open_type types name) cause ≡ None → HasNoNul name
+    → with_cause (open_type types name) cause ≡ None → HasNoNul name
 open-named types name cause h =
     word-clean name
-    (open-when (word_name name) (there (unmasked (type_named types name)) (user.UnknownServiceType name))
+    (open-when (word_name name) (there (if_unmasked (type_named types name)) (user.UnknownServiceType name))
     (user.IllegalServiceType name) cause h)
 
 -- ---- properties
@@ -142,30 +143,30 @@ names-of supports type_name ds before (p ∷ ps) h =
           (no-later valued others (no-later named (valued otherwise others) h)),
     )
 
-fit-row : (ps : List Property) (order : Order) (place bound : ℕ) → AreToldProperties ps
+fit-row : (ps : List Property) (order : Order) (place bound : ℕ) → AreParsedProperties ps
     → length (row (map property.format.writes ps) order place) ≤ bound → bound < 2 ^ 32
     → AllByRecursion (λ (p : Property). any_value.format.admits p.value) ps
-fit-row [] order place bound told within small = tt
-fit-row (p ∷ ps) order place bound told within small =
+fit-row [] order place bound content within small = tt
+fit-row (p ∷ ps) order place bound content within small =
     let first : List ℕ = property.format.writes p order place in
     let e = length-append first (row (map property.format.writes ps) order (place + length first)) in
-    let one : told.0.items ≤ length first =
-    then-second (text.format.writes p.name) (any_value.format.writes p.value) order place told.0.items
-    (told.0.long order) in (
-      told.0.admitted (omega (arith, e, one, within, small)),
-      fit-row ps order (place + length first) bound told.1 (omega (arith, e, within)) small,
+    let one : content.0.items ≤ length first =
+    then-second (text.format.writes p.name) (any_value.format.writes p.value) order place content.0.items
+    (content.0.long order) in (
+      content.0.admitted (omega (arith, e, one, within, small)),
+      fit-row ps order (place + length first) bound content.1 (omega (arith, e, within)) small,
     )
 
-fit-offer : (object : Ior) (ps : List Property) → encoded object ps ≤ most_bytes → AreToldProperties ps
+fit-offer : (object : Ior) (ps : List Property) → encoded_size object ps ≤ most_bytes → AreParsedProperties ps
     → AllByRecursion (λ (p : Property). any_value.format.admits p.value) ps
-fit-offer object ps h told =
+fit-offer object ps h content =
     let target : List ℕ = reference.format.writes object Big 0 in
     let count : List ℕ = (number 4).writes (length ps) Big (0 + length target) in
     let place : ℕ = (0 + length target) + length count in
     let items : List ℕ = row (map property.format.writes ps) Big place in
     let e = length-append target (count ++ items) in
     let f = length-append count items in
-    fit-row ps Big place most_bytes told (omega (arith, e, f, h)) (omega arith)
+    fit-row ps Big place most_bytes content (omega (arith, e, f, h)) (omega arith)
 
 both-of : (ps : List Property) → AllByRecursion (λ (p : Property). HasNoNul p.name) ps
     → AllByRecursion (λ (p : Property). any_value.format.admits p.value) ps
@@ -173,7 +174,7 @@ both-of : (ps : List Property) → AllByRecursion (λ (p : Property). HasNoNul p
 both-of [] names values = tt
 both-of (p ∷ ps) names values = ((names.0, values.0), both-of ps names.1 values.1)
 
-module _ (s : Store) (object : Ior) (type_name : List ℕ) (ps : List Property) (told : IsToldOffer object ps) where
+module _ (s : Store) (object : Ior) (type_name : List ℕ) (ps : List Property) (content : IsParsedOffer object ps) where
   properties-admitted : offer_cause s type_name ps ≡ None → is_too_large object ps ≡ false
       → (sequence property).format.admits ps
   properties-admitted fit fits =
@@ -184,8 +185,8 @@ module _ (s : Store) (object : Ior) (type_name : List ℕ) (ps : List Property) 
       (both-of ps
       (names-of s.attributes.supports_dynamic_properties type_name ds [] ps
       (no-first (properties_cause s.attributes.supports_dynamic_properties type_name ds [] ps)
-      (missing_cause type_name (missing ds ps)) fit))
-      (fit-offer object ps few.1 told.properties))
+      (missing_cause type_name (missing_property ds ps)) fit))
+      (fit-offer object ps few.1 content.properties))
 
   pub exports : is_done (apply s (change.Export object type_name ps)).outcome ≡ true
       → AdmitsChange (change.Export object type_name ps)
@@ -194,7 +195,7 @@ module _ (s : Store) (object : Ior) (type_name : List ℕ) (ps : List Property) 
         (object, (type_name, ps)),
         refl,
         (
-          told.target,
+          content.target,
           (
             open-named s.types.types type_name (interface_cause s type_name object) none.typed,
             properties-admitted none.offer none.room.fits,
@@ -214,7 +215,7 @@ module _ (s : Store) (object : Ior) (type_name : List ℕ) (ps : List Property) 
         (object, (type_name, (ps, (if_match_all, (recipe, policies))))),
         refl,
         (
-          told.target,
+          content.target,
           (
             open-named s.types.types type_name no_more none.typed,
             (properties-admitted none.offer none.room.fits, (tt, (plain, none_passed))),
@@ -224,12 +225,12 @@ module _ (s : Store) (object : Ior) (type_name : List ℕ) (ps : List Property) 
 
 -- ---- links
 
-register-admitted : (register : Option Ior) → IsToldRegister register → AdmitsRegister register
+register-admitted : (register : Option Ior) → IsParsedRegister register → AdmitsRegister register
 register-admitted None h = tt
 register-admitted (Some r) h = h
 
 pub links : (s : Store) (name : List ℕ) (target : Ior) (def_pass_on limiting : FollowOption) (register : Option Ior)
-    → reference.format.admits target → IsToldRegister register
+    → reference.format.admits target → IsParsedRegister register
     → is_done (apply s (change.AddLink name target def_pass_on limiting register)).outcome ≡ true
     → AdmitsChange (change.AddLink name target def_pass_on limiting register)
 links s name target def_pass_on limiting register t r h =

@@ -1,4 +1,5 @@
--- A type that the lines of a file tell, and that is added, can be written: its names are names, and its lists are short.
+-- A type that the lines of a file tell, and that is added, can be written: its names are names, and its lists are
+-- short.
 use Rattle.std.proofs.Common.{◌≡◌, ℕ, ◌+◌, ◌^◌, ◌<◌, ◌≤◌, nat_lt, Bool, true, false, not, ◌||◌, cond, List, []}
 use Rattle.std.proofs.Common.{◌∷◌, ◌++◌, length, map, filter, flat_map, reverse, Option, Some, None, Ok, Err}
 use Rattle.std.proofs.Common.{refl, ap, ◌∙◌, arith, ltb-false}
@@ -14,10 +15,10 @@ use Rattle.td_cdr.specs.Text.{HasNoNul}
 use Rattle.td_cdr.specs.declared.order.Order.TheVariants.{Big}
 use Rattle.td_file_laws.proofs.Accepting.{exports, exports-proxy, identifier-clean, links, not-true, one-fewer}
 use Rattle.td_file_laws.proofs.Accepting.{still-there, word-clean}
-use Rattle.td_lines.specs.Told.{AreToldTypes, IsTold}
+use Rattle.td_lines.specs.Parsing.{AreParsedTypes, IsParsedChange}
 use Rattle.td_ops.specs.declared.call.Change.{Change}
 use Rattle.td_ops.specs.declared.call.Change.TheVariants as change
-use Rattle.td_register.specs.Causes.{applied, unless as unless_cause}
+use Rattle.td_register.specs.Causes.{effect_of, unless as unless_cause}
 use Rattle.td_ops.specs.declared.outcome.Reply.{Reply}
 use Rattle.td_register.specs.Stores.{Store}
 use Rattle.td_trader.proofs.ReadAdmitted.{follow-admitted}
@@ -31,9 +32,9 @@ use Rattle.td_types.specs.Adding.{base_fault, definitions, inherited_definitions
 use Rattle.td_types.specs.Adding.{most_properties, most_types, name_fault}
 use Rattle.td_types.specs.Adding.{new_type, or_else, passes_limit, property_fault, redefinition, super_fault}
 use Rattle.td_types.specs.Adding.{supers_fault, with_type}
-use Rattle.td_types.specs.Calls.{Comes, add_fault, add_type as add_to, unless}
+use Rattle.td_types.specs.Calls.{RepositoryResult, add_fault, add_type as add_to, unless}
 use Rattle.td_types.specs.Descriptions.{full_description}
-use Rattle.td_types.specs.Properties.{full, full_properties, newcomers, strengthened}
+use Rattle.td_types.specs.Properties.{full, full_properties, newcomers, with_stronger_mode}
 use Rattle.td_types.specs.Repository.{Repository, has_type, is_among, is_named, type_named}
 use Rattle.td_types.specs.Writable.{AreWritable}
 use Rattle.td_types.specs.declared.entry.ServiceType.{ServiceType}
@@ -67,7 +68,7 @@ mode-admitted mode.Readonly = omega arith
 mode-admitted mode.Mandatory = omega arith
 mode-admitted mode.MandatoryReadonly = omega arith
 
-props-admitted : (ps : List PropStruct) → AllByRecursion (λ (p : PropStruct). HasNoNul p.name) ps → AreToldTypes ps
+props-admitted : (ps : List PropStruct) → AllByRecursion (λ (p : PropStruct). HasNoNul p.name) ps → AreParsedTypes ps
     → AllByRecursion prop_struct.format.admits ps
 props-admitted [] names types = tt
 props-admitted (p ∷ ps) names types =
@@ -157,13 +158,13 @@ third-of false true c d h = absurd (let bad : ⊥ = cc in bad)
 third-of false false true d h = absurd (let bad : ⊥ = cc in bad)
 third-of false false false d h = refl
 
-added : (s : Store) (told : Reply) (r : Comes)
-    → is_done (applied s (unless_cause (types_cause r) told (with_types s r))).outcome ≡ true
+added : (s : Store) (content : Reply) (r : RepositoryResult)
+    → is_done (effect_of s (unless_cause (types_cause r) content (with_types s r))).outcome ≡ true
     → (a : TypesReply × Repository) × (r ≡ Ok a)
-added s told (Ok a) h = (a, refl)
-added s told (Err (Raises f)) h = absurd (let bad : ⊥ = cc in bad)
-added s told (Err Full) h = absurd (let bad : ⊥ = cc in bad)
-added s told (Err Memory) h = absurd (let bad : ⊥ = cc in bad)
+added s content (Ok a) h = (a, refl)
+added s content (Err (Raises f)) h = absurd (let bad : ⊥ = cc in bad)
+added s content (Err Full) h = absurd (let bad : ⊥ = cc in bad)
+added s content (Err Memory) h = absurd (let bad : ⊥ = cc in bad)
 
 record IsWithin (r : Repository) (t : ServiceType) : Type 0 where
   types : length r.types ≤ most_types
@@ -194,11 +195,11 @@ module _ (s : Store) (name if_name : List ℕ) (props : List PropStruct) (supers
   unfolding add_to
   within-limits a e = not-full (add_fault s.types name if_name props supers) _ _ a e
 
-  pub types : HasNoNul if_name → AreToldTypes props
+  pub types : HasNoNul if_name → AreParsedTypes props
       → is_done (apply s (change.AddType name if_name props supers)).outcome ≡ true
       → AreWritable name if_name props supers
   unfolding comes_to
-  types plain told h =
+  types plain content h =
       let t = new_type s.types name if_name props supers in
       let is = added s _ (add_to s.types name if_name props supers) h in
       let f = after_adding s.types name if_name props supers is.0.0 is.0.1 is.1 in
@@ -220,12 +221,12 @@ module _ (s : Store) (name if_name : List ℕ) (props : List PropStruct) (supers
       let few_all : length (full_properties (s.types.types ++ t ∷ []) name) ≤ most_properties = fits.properties in
       let inherited = flat_map (full (reverse s.types.types)) supers in
       let own : length (full_properties (s.types.types ++ t ∷ []) name)
-      ≡ length (props ++ map (strengthened inherited) (newcomers props inherited)) =
+      ≡ length (props ++ map (with_stronger_mode inherited) (newcomers props inherited)) =
       ap (length {A = PropStruct}) (full_of_new s.types.types t) in
-      let joined = length-append props (map (strengthened inherited) (newcomers props inherited)) in
+      let joined = length-append props (map (with_stronger_mode inherited) (newcomers props inherited)) in
       let more = length-append s.types.types (t ∷ []) in
       let few_props : length props < 2 ^ 32 =
-      part-below (length props) (length (map (strengthened inherited) (newcomers props inherited)))
+      part-below (length props) (length (map (with_stronger_mode inherited) (newcomers props inherited)))
       (length (full_properties (s.types.types ++ t ∷ []) name)) most_properties (own ∙ joined) few_all (omega arith) in
       let few_supers : length supers < 2 ^ 32 =
       least-below (length supers) (length s.types.types) (length (s.types.types ++ t ∷ [])) most_types
@@ -234,7 +235,7 @@ module _ (s : Store) (name if_name : List ℕ) (props : List PropStruct) (supers
         (
           plain,
           (
-            sequence-from prop_struct props few_props (props-admitted props legal told),
+            sequence-from prop_struct props few_props (props-admitted props legal content),
             sequence-from text supers few_supers fit.texts,
           ),
         ),
@@ -242,7 +243,7 @@ module _ (s : Store) (name if_name : List ℕ) (props : List PropStruct) (supers
 
 -- ---- every change that lines tell
 
-pub accepted : (s : Store) (c : Change) → IsTold c → is_done (apply s c).outcome ≡ true → AdmitsChange c
+pub accepted : (s : Store) (c : Change) → IsParsedChange c → is_done (apply s c).outcome ≡ true → AdmitsChange c
 accepted s (change.Export object type_name ps) t h = exports s object type_name ps t h
 accepted s (change.ExportProxy target type_name ps if_match_all recipe policies) t h =
     exports-proxy s target type_name ps t.0 if_match_all recipe policies t.1 t.2 h

@@ -11,7 +11,7 @@ use Rattle.td_lines.specs.declared.entry.Script.{Script}
 use Rattle.td_lines.specs.declared.entry.TraderScript.{TraderScript}
 use Rattle.td_file_laws.specs.Files.{FilesOpenReachedTraders}
 use Rattle.td_register.specs.Stores.{Store}
-use Rattle.td_trader.specs.PlainTraders.{AreBounds, PlainTrader, opened}
+use Rattle.td_trader.specs.PlainTraders.{AreBounds, PlainTrader, new_trader}
 use Rattle.td_trader_laws.specs.Reaching.{AreReached, IsReached, just_opened}
 use Rattle.td_walk.specs.declared.trace.Address.{Address}
 
@@ -22,8 +22,8 @@ ok-same : {X F : Type 0} (x y : X) → ◌≡◌ {A = Result X F} (Ok x) (Ok y) 
 ok-same x y e = cc
 
 one-reached : (t : TraderScript) (r : Result Store Refused) (u : PlainTrader)
-    → (r >>= λ s. Ok (opened t.name s bounds)) ≡ Ok u → IsReached u
-one-reached t (Ok s) u e = subst IsReached (ok-same (opened t.name s bounds) u e) (just_opened t.name s bounds may-be)
+    → (r >>= λ s. Ok (new_trader t.name s bounds)) ≡ Ok u → IsReached u
+one-reached t (Ok s) u e = subst IsReached (ok-same (new_trader t.name s bounds) u e) (just_opened t.name s bounds may-be)
 one-reached t (Err f) u e = absurd (cc)
 
 cons-reached : (t : PlainTrader) (ts : List PlainTrader) → IsReached t → AreReached ts → AreReached (t ∷ ts)

@@ -1,6 +1,6 @@
 -- The worked examples hold.
 use Rattle.std.proofs.Common.{◌≡◌, [], ◌∷◌, refl, arith}
-use Rattle.td_codes.specs.declared.reference.Ior.{Ior}
+use Rattle.td_typecode.specs.declared.reference.Ior.{Ior}
 use Rattle.td_file_laws.specs.Examples.{WorkedTelling}
 use Rattle.td_value.specs.declared.structures.Policy.{Policy}
 

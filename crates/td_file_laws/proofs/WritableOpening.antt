@@ -7,7 +7,7 @@ use Rattle.td_cdr.specs.Reading.{◌>>=◌}
 use Rattle.td_cdr.specs.Text.{HasNoNul}
 use Rattle.td_changes.specs.Applying.{apply}
 use Rattle.td_changes.specs.Histories.{is_done}
-use Rattle.td_codes.specs.References.{reference}
+use Rattle.td_typecode.specs.References.{reference}
 use Rattle.td_file.specs.Files.{Opening, home_address, opening, opening_of, opening_with, unless_refused}
 use Rattle.td_file.specs.Openings.{all_traders, behind, bounds, change_of, later_refusal, missing_in}
 use Rattle.td_file.specs.Openings.{new_store, opening_store, store_after, trader_of}
@@ -15,11 +15,11 @@ use Rattle.td_file_laws.proofs.AcceptingTypes.{accepted}
 use Rattle.td_file_laws.specs.Files.{FilesOpenWritableTraders}
 use Rattle.td_ior.proofs.Texts.{made-admitted}
 use Rattle.td_ior.specs.Keys.{written_key}
-use Rattle.td_lines.proofs.Telling.{told}
+use Rattle.td_lines.proofs.Telling.{content}
 use Rattle.td_lines.specs.Scripts.{script_of}
-use Rattle.td_lines.specs.Told.{AreToldEntries, AreToldScripts, IsTold, IsToldEntry}
-use Rattle.td_lines.specs.declared.entry.Entry.{Entry}
-use Rattle.td_lines.specs.declared.entry.Entry.TheVariants as entry
+use Rattle.td_lines.specs.Parsing.{AreParsedEntries, AreParsedScripts, IsParsedChange, IsParsedEntry}
+use Rattle.td_lines.specs.declared.entry.FileEntry.{FileEntry}
+use Rattle.td_lines.specs.declared.entry.FileEntry.TheVariants as entry
 use Rattle.td_lines.specs.declared.entry.Home.{Home}
 use Rattle.td_lines.specs.declared.entry.Numbered.{Numbered}
 use Rattle.td_lines.specs.declared.entry.Refused.{Refused}
@@ -30,15 +30,15 @@ use Rattle.td_objects.specs.References.{own_reference, trader_references}
 use Rattle.td_objects.specs.declared.interface.Interface.{Interface}
 use Rattle.td_objects.specs.declared.interface.Interface.TheVariants as interface
 use Rattle.td_ops.specs.declared.call.Change.{Change}
-use Rattle.td_register.specs.Causes.{Applied}
+use Rattle.td_register.specs.Causes.{Effect}
 use Rattle.td_register.specs.Stores.{Store}
-use Rattle.td_trader.specs.PlainTraders.{PlainTrader, opened}
+use Rattle.td_trader.specs.PlainTraders.{PlainTrader, new_trader}
 use Rattle.td_trader_laws.proofs.Written.{changes}
 use Rattle.td_trader_laws.specs.Writable.{IsWritableStore}
 use Rattle.td_trader_laws.specs.WritableTraders.{IsWritableTrader}
 use Rattle.td_types.proofs.Admitted.{new-written}
 use Rattle.td_types.proofs.Start.{no_types}
-use Rattle.td_types.specs.Repository.{Declared}
+use Rattle.td_types.specs.Repository.{InterfaceBases}
 use Rattle.td_value.specs.declared.key.Kind.{Kind}
 use Rattle.td_value.specs.declared.key.Kind.TheVariants as kind
 use Rattle.td_walk.specs.declared.trace.Address.{Address}
@@ -50,7 +50,7 @@ own : (home : Address) (i : Interface) (name : List ℕ) (k : Kind) → HasNoNul
 own home i name k clean =
     made-admitted (interface_id i) home.host (written_key (record { trader = name; kind = k })) home.port home.minor clean
 
-new-writable : (home : Address) (name : List ℕ) (interfaces : Declared) → IsWritableStore (new_store home name interfaces)
+new-writable : (home : Address) (name : List ℕ) (interfaces : InterfaceBases) → IsWritableStore (new_store home name interfaces)
 unfolding new_store trader_references IsDistinct IsStrictlySortedBy
 new-writable home name interfaces = record {
   store =
@@ -92,7 +92,7 @@ new-writable home name interfaces = record {
 
 -- ---- its entries
 
-asked : (home : Address) (e : Entry) → IsToldEntry e → IsTold (change_of home e)
+asked : (home : Address) (e : FileEntry) → IsParsedEntry e → IsParsedChange (change_of home e)
 asked home (entry.Change c) h = h
 asked home (entry.Link name trader def_pass_on limiting) h = (
   own home interface.Lookup trader kind.Lookup refl,
@@ -100,13 +100,13 @@ asked home (entry.Link name trader def_pass_on limiting) h = (
 )
 
 -- an applied change, where it was done
-entered-done : (done : Bool) (a : Applied) (refused : Refused) (more : Store)
+entered-done : (done : Bool) (a : Effect) (refused : Refused) (more : Store)
     → (if done then Ok a.store else Err refused) ≡ Ok more → (done ≡ true) × (a.store ≡ more)
 entered-done true a refused more e = (refl, (let same : a.store ≡ more = cc in same))
 entered-done false a refused more e = absurd (let bad : ⊥ = cc in bad)
 
 behind-writable : (home : Address) (s : Store) (one : Numbered) (more : Store) → IsWritableStore s
-    → IsToldEntry one.entry → behind home s one ≡ Ok more → IsWritableStore more
+    → IsParsedEntry one.entry → behind home s one ≡ Ok more → IsWritableStore more
 behind-writable home s one more w h e =
     let c = change_of home one.entry in
     let a = apply s c in
@@ -114,7 +114,7 @@ behind-writable home s one more w h e =
     subst IsWritableStore d.1 (changes s c w (accepted s c (asked home one.entry h) d.0)).store
 
 entries-writable : (home : Address) (s : Store) (entries : List Numbered) (after : Store) → IsWritableStore s
-    → AreToldEntries entries → store_after home s entries ≡ Ok after → IsWritableStore after
+    → AreParsedEntries entries → store_after home s entries ≡ Ok after → IsWritableStore after
 entries-writable home s [] after w h e = subst IsWritableStore (let same : s ≡ after = cc in same) w
 entries-writable home s (one ∷ others) after w h e =
     go (behind home s one) (λ more is. behind-writable home s one more w h.0 is)
@@ -130,13 +130,13 @@ entries-writable home s (one ∷ others) after w h e =
 
 one-writable : (home : Address) (t : TraderScript) (r : Result Store Refused)
     → ((s : Store) → r ≡ Ok s → IsWritableStore s) → (u : PlainTrader)
-    → (r >>= λ s. Ok (opened t.name s bounds)) ≡ Ok u → IsWritableTrader u
+    → (r >>= λ s. Ok (new_trader t.name s bounds)) ≡ Ok u → IsWritableTrader u
 one-writable home t (Ok s) h u e =
-    subst IsWritableTrader (let same : opened t.name s bounds ≡ u = cc in same)
+    subst IsWritableTrader (let same : new_trader t.name s bounds ≡ u = cc in same)
     (record { opening = h s refl; changes = tt })
 one-writable home t (Err f) h u e = absurd (let bad : ⊥ = cc in bad)
 
-all-writable : (home : Address) (ts : List TraderScript) (us : List PlainTrader) → AreToldScripts ts
+all-writable : (home : Address) (ts : List TraderScript) (us : List PlainTrader) → AreParsedScripts ts
     → all_traders home ts ≡ Ok us → AllByRecursion IsWritableTrader us
 all-writable home [] us h e = subst (AllByRecursion IsWritableTrader) (let same : [] ≡ us = cc in same) tt
 all-writable home (t ∷ ts) us h e =
@@ -167,7 +167,7 @@ at-writable home seed (Ok us) None all o e =
     subst (λ (z : Opening). AllByRecursion IsWritableTrader z.traders)
     (let same : opening home seed us ≡ o = cc in same) (all us refl)
 
-with-writable : (s : Script) (h : Option Home) (o : Opening) → AreToldScripts s.traders → opening_with s h ≡ Ok o
+with-writable : (s : Script) (h : Option Home) (o : Opening) → AreParsedScripts s.traders → opening_with s h ≡ Ok o
     → AllByRecursion IsWritableTrader o.traders
 with-writable s None o t e = absurd (let bad : ⊥ = cc in bad)
 with-writable s (Some home) o t e =
@@ -178,4 +178,4 @@ with-writable s (Some home) o t e =
 pub files-open-writable : FilesOpenWritableTraders
 unfolding opening_of
 files-open-writable text o octets e =
-    with-writable (script_of text) (script_of text).home o (told text octets) e
+    with-writable (script_of text) (script_of text).home o (content text octets) e

@@ -2,5 +2,5 @@
 use Rattle.std.specs.Prelude.{ℕ, List, ◌++◌, decimal}
 
 -- a label, and a number in decimal right behind it
-abbrev pub counted : (label : List ℕ) → ℕ → List ℕ
-counted label n = label ++ decimal n
+abbrev pub label_number : (label : List ℕ) → ℕ → List ℕ
+label_number label n = label ++ decimal n

@@ -1,7 +1,7 @@
 -- The types of single values, by the words for them.
 use Rattle.std.specs.Prelude.{ℕ, List, [], ◌∷◌, codes}
-use Rattle.td_codes.specs.declared.code.TypeCode.{TypeCode}
-use Rattle.td_codes.specs.declared.code.TypeCode.TheVariants as code
+use Rattle.td_typecode.specs.declared.code.TypeCode.{TypeCode}
+use Rattle.td_typecode.specs.declared.code.TypeCode.TheVariants as code
 use Rattle.td_forms.specs.declared.item.ItemType.{ItemType}
 use Rattle.td_forms.specs.declared.item.ItemType.TheVariants as item
 

@@ -3,8 +3,8 @@ use Rattle.std.specs.Prelude.{ℕ, List, take, drop, codes, if◌then◌else◌,
 use Rattle.std.specs.Option.{option_map}
 use Rattle.std.specs.Str.{bytes_eq}
 use Rattle.td_cdr.specs.Format.{value_named}
-use Rattle.td_codes.specs.declared.code.TypeCode.{TypeCode}
-use Rattle.td_codes.specs.declared.code.TypeCode.TheVariants as code
+use Rattle.td_typecode.specs.declared.code.TypeCode.{TypeCode}
+use Rattle.td_typecode.specs.declared.code.TypeCode.TheVariants as code
 use Rattle.td_forms.specs.Items.{item_code, item_name, items}
 use Rattle.td_forms.specs.declared.value_type.ValueType.{ValueType}
 use Rattle.td_forms.specs.declared.value_type.ValueType.TheVariants.{Plain, Sequence}

@@ -3,8 +3,8 @@ use Rattle.std.specs.Prelude.{ℕ, nat_eq, Bool, List, [], ◌∷◌, if◌then�
 use Rattle.std.specs.List.{slice_split}
 use Rattle.std.specs.Option.{option_map}
 use Rattle.td_cdr.specs.Text.{has_nul}
-use Rattle.td_codes.specs.declared.code.Value.{Value}
-use Rattle.td_codes.specs.declared.code.Value.TheVariants as value
+use Rattle.td_typecode.specs.declared.code.Value.{Value}
+use Rattle.td_typecode.specs.declared.code.Value.TheVariants as value
 use Rattle.td_ior.specs.Keys.{◌>>=◌}
 use Rattle.td_ior.specs.Number.{number_below}
 use Rattle.td_forms.specs.Numbers.{signed_below}

@@ -1,7 +1,7 @@
 //! Pieces behind a text: a text, a number, and a label with its number.
 
 ghost use Rattle.std.specs.Prelude.{◌≡◌, ◌++◌, decimal, OnOk};
-ghost use Rattle.td_forms.specs.Counted.{counted};
+ghost use Rattle.td_forms.specs.Counted.{label_number};
 
 use itoa::Buffer;
 use td_cdr::Memory;
@@ -10,7 +10,7 @@ use td_cdr::Memory;
 ///
 /// # Errors
 ///
-/// `Memory` for want of memory alone.
+/// `Memory` only when out of memory.
 pub fn put(text: &mut Vec<u8>, piece: &[u8]) -> Result<(), Memory>
     ensures { OnOk result (text.new.items ≡ text.old.items ++ piece.now) }
 {
@@ -22,7 +22,7 @@ pub fn put(text: &mut Vec<u8>, piece: &[u8]) -> Result<(), Memory>
 ///
 /// # Errors
 ///
-/// `Memory` for want of memory alone.
+/// `Memory` only when out of memory.
 pub fn put_decimal(text: &mut Vec<u8>, number: u64) -> Result<(), Memory>
     ensures { OnOk result (text.new.items ≡ text.old.items ++ decimal number) }
 {
@@ -34,9 +34,9 @@ pub fn put_decimal(text: &mut Vec<u8>, number: u64) -> Result<(), Memory>
 ///
 /// # Errors
 ///
-/// `Memory` for want of memory alone.
+/// `Memory` only when out of memory.
 pub fn put_counted(text: &mut Vec<u8>, label: &[u8], number: u64) -> Result<(), Memory>
-    ensures { OnOk result (text.new.items ≡ text.old.items ++ counted label.now number) }
+    ensures { OnOk result (text.new.items ≡ text.old.items ++ label_number label.now number) }
 {
     put(text, label)?;
     put_decimal(text, number)

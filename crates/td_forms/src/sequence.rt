@@ -2,7 +2,7 @@
 
 ghost use Rattle.std.specs.Prelude.{◌≡◌, ◌<◌, ◌∷◌, [], length, IfOk, MatchOption};
 ghost use Rattle.std.specs.List.{position, slice_split};
-ghost use Rattle.td_forms.specs.Pieces.{Puts, joined};
+ghost use Rattle.td_forms.specs.Pieces.{PutsValue, join_values};
 ghost use Rattle.td_forms.specs.Values.{all_values, is_comma, item_value, items_of};
 
 use crate::item::ItemType;
@@ -38,7 +38,7 @@ fn put_item(
     item: ItemType,
     text: &[u8],
 ) -> Result<bool, Memory>
-    ensures { IfOk result (λ put. Puts (item_value item text.now) put items.old items.new) }
+    ensures { IfOk result (λ put. PutsValue (item_value item text.now) put items.old items.new) }
 {
     match item_value(alloc, item, text)? {
         Some(value) => {
@@ -57,7 +57,7 @@ fn put_items(
     text: &[u8],
 ) -> Result<Option<List<Value>>, Memory>
     ensures { IfOk result (λ found. found
-        ≡ joined items (all_values item (slice_split is_comma text.now))) }
+        ≡ join_values items (all_values item (slice_split is_comma text.now))) }
 {
     let mut rest = text;
     'parts: loop {

@@ -1,7 +1,7 @@
 //! The types of values: single ones, and sequences of them.
 
 ghost use Rattle.std.specs.Prelude.{◌≡◌, IfOk};
-ghost use Rattle.td_codes.specs.declared.code.TypeCode.TheVariants as code;
+ghost use Rattle.td_typecode.specs.declared.code.TypeCode.TheVariants as code;
 ghost use Rattle.td_forms.specs.Items.{item_code};
 ghost use Rattle.td_forms.specs.Types.{code_of, plain_named, sequence_named, value_type_of};
 
@@ -58,7 +58,7 @@ fn sequence_code(alloc: Global, item: ItemType) -> Result<TypeCode, Memory>
 ///
 /// # Errors
 ///
-/// `Memory` for want of memory alone.
+/// `Memory` only when out of memory.
 pub fn code_of(alloc: Global, value_type: ValueType) -> Result<TypeCode, Memory>
     ensures { IfOk result (λ c. c ≡ code_of value_type) }
 {

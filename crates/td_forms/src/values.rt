@@ -145,7 +145,7 @@ fn sequence_value(alloc: Global, item: ItemType, text: &[u8]) -> Result<Option<V
 ///
 /// # Errors
 ///
-/// `Memory` for want of memory alone.
+/// `Memory` only when out of memory.
 pub fn value_of(alloc: Global, value_type: ValueType, text: &[u8]) -> Result<Option<Value>, Memory>
     ensures { IfOk result (λ found. found ≡ value_of value_type text.now) }
 {

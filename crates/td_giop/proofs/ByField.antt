@@ -5,7 +5,7 @@ use Rattle.td_cdr.specs.declared.order.Order.{Order}
 use Rattle.td_cdr.specs.Format.{Piece, ◌then◌, row}
 use Rattle.td_giop.specs.declared.message_type.TheConstants.{REQUEST, REPLY, LOCATE_REQUEST, LOCATE_REPLY}
 use Rattle.td_giop.specs.Fields.{ulong, boolean, octets, text}
-use Rattle.td_giop.specs.Heads.{reserved}
+use Rattle.td_giop.specs.Heads.{reserved_field}
 use Rattle.td_giop.specs.Written.{header_written, request_start, reply_start, locate_written, locate_reply_written}
 
 -- a field behind these bytes, at the place where they end
@@ -19,7 +19,7 @@ request_by_field order minor id answered key operation =
     ▹ ulong.format.writes 0 order
     ▹ ulong.format.writes id order
     ▹ boolean.format.writes answered order
-    ▹ (reserved minor).format.writes tt order
+    ▹ (reserved_field minor).format.writes tt order
     ▹ octets.format.writes key order
     ▹ text.format.writes operation order
     ▹ octets.format.writes [] order
@@ -77,12 +77,12 @@ request_is order minor id answered key operation =
     let head = header_written order minor REQUEST in
     let rest : List ℕ → List ℕ = λ c.
     onto (onto (onto (onto (onto (onto c (ulong.format.writes id) order) (boolean.format.writes answered) order)
-    ((reserved minor).format.writes tt) order)
+    ((reserved_field minor).format.writes tt) order)
     (octets.format.writes key) order)
     (text.format.writes operation) order)
     (octets.format.writes []) order in
     sym (seven_onto (ulong.format.writes 0 then row []) (ulong.format.writes id) (boolean.format.writes answered)
-    ((reserved minor).format.writes tt) (octets.format.writes key) (text.format.writes operation)
+    ((reserved_field minor).format.writes tt) (octets.format.writes key) (text.format.writes operation)
     (octets.format.writes []) order head
     ∙ ap rest (no_row order head))
 

@@ -5,18 +5,19 @@ use Rattle.std.proofs.Common.{length-append, length-drop}
 use Rattle.std.specs.List.{concat}
 use Rattle.std.proofs.lemmas.List.{take-append-drop, take_at, drop-append-le, take-append-le, length-take-le}
 use Rattle.td_giop.specs.declared.fault.FrameFault.{FrameFault}
-use Rattle.td_giop.specs.Header.{GoodHeader, Judged, header_at}
+use Rattle.td_giop.specs.Header.{GoodHeader, JudgesHeader, header_at}
 use Rattle.td_giop.specs.declared.raw.Raw.{Raw}
 use Rattle.td_giop.specs.FramerLends.{IsRaw}
 use Rattle.td_giop.specs.Stream.{Stream, first_at}
-use Rattle.td_giop.specs.Cut.{Ending, border, inside, bad, EndsSo, Front, Fronts, Cut, HasCut, SameCut, IsMessage}
+use Rattle.td_giop.specs.Cut.{StreamEnd, border, inside, bad, HasEnding, IsFirstMessage, Fronts, Cut, HasCut, SameCut}
+use Rattle.td_giop.specs.Cut.{IsMessage}
 use Rattle.td_giop.proofs.Judged.{judged, good_at, header_at-append}
 use Rattle.td_giop.proofs.Framing.{whole, bad_header, same_size, first-append, first_of}
 
 -- ---- no second pair fits
 
 -- a rest that ends so has no whole message in front
-no_front : (limit : ℕ) (e : Ending) (rest m : List ℕ) → EndsSo limit e rest → Front limit rest m → ⊥
+no_front : (limit : ℕ) (e : StreamEnd) (rest m : List ℕ) → HasEnding limit e rest → IsFirstMessage limit rest m → ⊥
 no_front limit border rest m ends front =
     let w = whole limit rest (length m) front.size in
     let none : length rest ≡ 0 = ap (length {A = ℕ}) ends in
@@ -24,7 +25,7 @@ no_front limit border rest m ends front =
 no_front limit inside rest m ends front = cc (ends.0, front.size)
 no_front limit (bad fault) rest m ends front = cc (ends, front.size)
 
-pub same_front : (limit : ℕ) (s m n : List ℕ) → Front limit s m → Front limit s n → m ≡ n
+pub same_front : (limit : ℕ) (s m n : List ℕ) → IsFirstMessage limit s m → IsFirstMessage limit s n → m ≡ n
 same_front limit s m n p q =
     let e = same_size (length m) (length n) (sym p.size ∙ q.size) in
     p.bytes ∙ ap (λ (k : ℕ). take k s) e ∙ sym q.bytes
@@ -35,11 +36,11 @@ bad_size f = Err f
 -- a bad header isn't nothing
 not_empty : (limit : ℕ) (f : FrameFault) (rest : List ℕ) → rest ≡ [] → first_at limit rest ≡ Err f → ⊥
 not_empty limit f rest e b =
-    let there = (subst (Judged limit rest) (bad_header limit rest f b) (judged limit rest)).0 in
+    let there = (subst (JudgesHeader limit rest) (bad_header limit rest f b) (judged limit rest)).0 in
     let none : length rest ≡ 0 = ap (length {A = ℕ}) e in
     omega (arith, there, none)
 
-same_ending : (limit : ℕ) (e f : Ending) (rest : List ℕ) → EndsSo limit e rest → EndsSo limit f rest → e ≡ f
+same_ending : (limit : ℕ) (e f : StreamEnd) (rest : List ℕ) → HasEnding limit e rest → HasEnding limit f rest → e ≡ f
 same_ending limit border border rest p q = refl
 same_ending limit border inside rest p q =
     let none : length rest ≡ 0 = ap (length {A = ℕ}) p in absurd (omega (arith, none, q.1))
@@ -52,20 +53,20 @@ same_ending limit (bad e) border rest p q = absurd (not_empty limit e rest q p)
 same_ending limit (bad e) inside rest p q = absurd (cc (p, q.0))
 same_ending limit (bad e) (bad f) rest p q = let both : bad_size e ≡ bad_size f = sym p ∙ q in cc
 
-one_fronts : (limit : ℕ) (s : List ℕ) (ms ns : List (List ℕ)) (rest other : List ℕ) (e f : Ending)
-    → Fronts limit s ms rest → EndsSo limit e rest → Fronts limit s ns other → EndsSo limit f other
+one_fronts : (limit : ℕ) (s : List ℕ) (ms ns : List (List ℕ)) (rest other : List ℕ) (e f : StreamEnd)
+    → Fronts limit s ms rest → HasEnding limit e rest → Fronts limit s ns other → HasEnding limit f other
     → SameCut ms ns rest other e f
 one_fronts limit s [] [] rest other e f p ends q also =
     let same : rest ≡ other = sym p ∙ q in
     record {
       messages = refl;
       rest = same;
-      ending = same_ending limit e f other (subst (EndsSo limit e) same ends) also;
+      ending = same_ending limit e f other (subst (HasEnding limit e) same ends) also;
     }
 one_fronts limit s [] (n ∷ ns) rest other e f p ends q also =
-    absurd (no_front limit e rest n ends (subst (λ (x : List ℕ). Front limit x n) p q.0))
+    absurd (no_front limit e rest n ends (subst (λ (x : List ℕ). IsFirstMessage limit x n) p q.0))
 one_fronts limit s (m ∷ ms) [] rest other e f p ends q also =
-    absurd (no_front limit f other m also (subst (λ (x : List ℕ). Front limit x m) q p.0))
+    absurd (no_front limit f other m also (subst (λ (x : List ℕ). IsFirstMessage limit x m) q p.0))
 one_fronts limit s (m ∷ ms) (n ∷ ns) rest other e f p ends q also =
     let mn = same_front limit s m n p.0 q.0 in
     let there : Fronts limit (drop (length m) s) ns other =
@@ -73,16 +74,16 @@ one_fronts limit s (m ∷ ms) (n ∷ ns) rest other e f p ends q also =
     let ih = one_fronts limit (drop (length m) s) ms ns rest other e f p.1 ends there also in
     record { messages = cc (mn, ih.messages); rest = ih.rest; ending = ih.ending }
 
-pub one_cut : (limit : ℕ) (s : List ℕ) (ms ns : List (List ℕ)) (rest other : List ℕ) (e f : Ending)
+pub one_cut : (limit : ℕ) (s : List ℕ) (ms ns : List (List ℕ)) (rest other : List ℕ) (e f : StreamEnd)
     → Cut limit s ms rest e → Cut limit s ns other f → SameCut ms ns rest other e f
 one_cut limit s ms ns rest other e f p q = one_fronts limit s ms ns rest other e f p.fronts p.ends q.fronts q.ends
 
 -- ---- what is fed goes into the rest
 
-pub front_within : (limit : ℕ) (s m : List ℕ) → Front limit s m → (12 ≤ length m) × (length m ≤ length s)
+pub front_within : (limit : ℕ) (s m : List ℕ) → IsFirstMessage limit s m → (12 ≤ length m) × (length m ≤ length s)
 front_within limit s m front = let w = whole limit s (length m) front.size in (omega (arith, w.size), w.within)
 
-front_fed : (limit : ℕ) (s p m : List ℕ) → Front limit s m → Front limit (s ++ p) m
+front_fed : (limit : ℕ) (s p m : List ℕ) → IsFirstMessage limit s m → IsFirstMessage limit (s ++ p) m
 front_fed limit s p m front = record {
   size = first-append limit s p (length m) front.size;
   bytes = front.bytes ∙ sym (take-append-le (length m) s p (front_within limit s m front).1);
@@ -99,8 +100,8 @@ fronts_fed limit s p (m ∷ ms) rest f =
 -- ---- one message more
 
 pub fronts_more : (limit : ℕ) (s : List ℕ) (ms : List (List ℕ)) (rest m : List ℕ) → Fronts limit s ms rest
-    → Front limit rest m → Fronts limit s (ms ++ m ∷ []) (drop (length m) rest)
-fronts_more limit s [] rest m f front = (subst (λ (x : List ℕ). Front limit x m) (sym f) front, ap (drop (length m)) f)
+    → IsFirstMessage limit rest m → Fronts limit s (ms ++ m ∷ []) (drop (length m) rest)
+fronts_more limit s [] rest m f front = (subst (λ (x : List ℕ). IsFirstMessage limit x m) (sym f) front, ap (drop (length m)) f)
 fronts_more limit s (n ∷ ns) rest m f front = (f.0, fronts_more limit (drop (length n) s) ns rest m f.1 front)
 
 pub fronts_none : (limit : ℕ) (s : List ℕ) → Fronts limit s [] s
@@ -117,7 +118,7 @@ fronts_joined limit s (m ∷ ms) rest f =
 
 -- ---- every stream is messages and a rest
 
-front_taken : (limit : ℕ) (s : List ℕ) (n : ℕ) → first_at limit s ≡ Ok (Some n) → Front limit s (take n s)
+front_taken : (limit : ℕ) (s : List ℕ) (n : ℕ) → first_at limit s ≡ Ok (Some n) → IsFirstMessage limit s (take n s)
 front_taken limit s n e =
     let w = whole limit s n e in
     let long : length (take n s) ≡ n = length-take-le n s w.within in
@@ -167,7 +168,7 @@ has_cut limit s = cut_within (suc (length s)) limit s (omega arith)
 
 -- ---- a message by itself
 
-pub front_message : (limit : ℕ) (s m : List ℕ) → Front limit s m → IsMessage limit m
+pub front_message : (limit : ℕ) (s m : List ℕ) → IsFirstMessage limit s m → IsMessage limit m
 front_message limit s m front =
     let w = whole limit s (length m) front.size in
     let long : 12 ≤ length m = omega (arith, w.size) in
@@ -175,7 +176,7 @@ front_message limit s m front =
     sym (take-append-drop (length m) s) ∙ ap (λ (x : List ℕ). x ++ drop (length m) s) (sym front.bytes) in
     let alone : header_at limit m ≡ Ok (Some w.header) =
     sym (header_at-append limit m (drop (length m) s) long) ∙ ap (header_at limit) (sym parts) ∙ w.was in
-    let good = subst (Judged limit m) alone (judged limit m) in
+    let good = subst (JudgesHeader limit m) alone (judged limit m) in
     let size : w.header.size ≡ length m - 12 = omega (arith, w.size) in
     record {
       minor = w.header.minor;
@@ -184,10 +185,10 @@ front_message limit s m front =
       good = subst (GoodHeader limit m w.header.minor w.header.order w.header.kind) size good;
     }
 
-abbrev told_size : ℕ → Result (Option ℕ) FrameFault
-told_size n = Ok (Some n)
+abbrev content_size : ℕ → Result (Option ℕ) FrameFault
+content_size n = Ok (Some n)
 
-pub message_front : (limit : ℕ) (m rest : List ℕ) → IsMessage limit m → Front limit (m ++ rest) m
+pub message_front : (limit : ℕ) (m rest : List ℕ) → IsMessage limit m → IsFirstMessage limit (m ++ rest) m
 message_front limit m rest i =
     let long = i.good.whole in
     let there = header_at-append limit m rest long ∙ good_at limit m i.minor i.order i.kind (length m - 12) i.good in
@@ -195,11 +196,11 @@ message_front limit m rest i =
     let first =
     first_of limit (m ++ rest) (record { kind = i.kind; order = i.order; size = length m - 12; minor = i.minor }) there
     (omega (arith, length-append m rest)) in
-    record { size = first ∙ ap (λ (n : ℕ). told_size n) size; bytes = sym (take_at m rest (length m) refl) }
+    record { size = first ∙ ap (λ (n : ℕ). content_size n) size; bytes = sym (take_at m rest (length m) refl) }
 
 -- ---- what a framer lends
 
-pub raw_front : (s : Stream) (m : Raw) → IsRaw s m → Front s.limit s.rest m.bytes.now
+pub raw_front : (s : Stream) (m : Raw) → IsRaw s m → IsFirstMessage s.limit s.rest m.bytes.now
 raw_front s m r = record { size = r.whole; bytes = r.bytes }
 
 pub raw_good : (s : Stream) (m : Raw) → IsRaw s m
@@ -213,10 +214,10 @@ raw_good s m r =
     ≡ Ok (Some (record { kind = m.kind; order = m.order; size = length bytes - 12; minor = m.minor })) =
     sym (header_at-append s.limit bytes (drop (length bytes) s.rest) r.least) ∙ ap (header_at s.limit) (sym parts)
     ∙ r.header in
-    subst (Judged s.limit bytes) alone (judged s.limit bytes)
+    subst (JudgesHeader s.limit bytes) alone (judged s.limit bytes)
 
 -- ---- a whole cut
 
-pub fronts_cut : (limit : ℕ) (s : List ℕ) (ms : List (List ℕ)) (rest : List ℕ) (e : Ending) → Fronts limit s ms rest
-    → EndsSo limit e rest → Cut limit s ms rest e
+pub fronts_cut : (limit : ℕ) (s : List ℕ) (ms : List (List ℕ)) (rest : List ℕ) (e : StreamEnd) → Fronts limit s ms rest
+    → HasEnding limit e rest → Cut limit s ms rest e
 fronts_cut limit s ms rest e f ends = record { fronts = f; ends = ends }

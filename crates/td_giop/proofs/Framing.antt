@@ -9,12 +9,12 @@ use Rattle.std.proofs.Math.Seq.{take-length}
 use Rattle.td_cdr.specs.declared.order.Order.{Order}
 use Rattle.td_giop.specs.declared.fault.FrameFault.{FrameFault}
 use Rattle.td_giop.specs.declared.header.Header.{Header}
-use Rattle.td_giop.specs.Header.{GoodHeader, header_at, Judged, order_told}
+use Rattle.td_giop.specs.Header.{GoodHeader, header_at, JudgesHeader, order_of_flag}
 use Rattle.td_giop.specs.declared.raw.Raw.{Raw}
-use Rattle.td_giop.specs.Stream.{Stream, first_at, whole_within, IsFront}
+use Rattle.td_giop.specs.Stream.{Stream, first_at, whole_within, IsFrontOfStream}
 use Rattle.td_giop.specs.FramerLends.{IsRaw}
 use Rattle.td_giop.proofs.Cond.{cond_case}
-use Rattle.td_giop.proofs.Judged.{judged, only_told, header_at-append, octet-append}
+use Rattle.td_giop.proofs.Judged.{judged, only_content, header_at-append, octet-append}
 
 abbrev header_result : Type 0
 header_result = Result (Option Header) FrameFault
@@ -61,7 +61,7 @@ whole limit s n e =
     record {
       header = w.header;
       was = w.was;
-      good = subst (Judged limit s) w.was (judged limit s);
+      good = subst (JudgesHeader limit s) w.was (judged limit s);
       size = w.size;
       within = w.within;
     }
@@ -103,7 +103,7 @@ pub bad-append : (limit : ℕ) (s p : List ℕ) (f : FrameFault) → first_at li
     → first_at limit (s ++ p) ≡ Err f
 bad-append limit s p f e =
     let h = bad_header limit s f e in
-    let there = subst (Judged limit s) h (judged limit s) in
+    let there = subst (JudgesHeader limit s) h (judged limit s) in
     bad_first limit (s ++ p) f (header_at-append limit s p there.0 ∙ h)
 
 -- ---- the framer
@@ -131,7 +131,7 @@ filled old kept new piece count room e f g fits =
 -- a piece goes behind what the ring held
 pub fed : (limit : ℕ) (message : Vec ℕ) (old ring piece : List ℕ)
     → (length message.items ≡ 0) ⊎ (first_at limit (message.items ++ old) ≡ Ok (Some (length message.items)))
-    → ring ≡ old ++ piece → length ring ≤ vec_capacity message → IsFront limit message ring
+    → ring ≡ old ++ piece → length ring ≤ vec_capacity message → IsFrontOfStream limit message ring
 fed limit message old ring piece (inl empty) e room = record { front = inl empty; room = room }
 fed limit message old ring piece (inr front) e room =
     let there : first_at limit (message.items ++ ring) ≡ Ok (Some (length message.items)) =
@@ -149,7 +149,7 @@ bounded start message old piece kept ring e f h =
 -- what is lent is the message in front, with what its header tells
 pub is_raw : (s : Stream) (message ring : List ℕ) (m : Raw) → s.rest ≡ message ++ ring
     → first_at s.limit s.rest ≡ Ok (Some (length message)) → m.bytes.now ≡ message → m.start ≡ s.start
-    → m.kind ≡ slice_index message 7 → m.order ≡ order_told (slice_index message 6)
+    → m.kind ≡ slice_index message 7 → m.order ≡ order_of_flag (slice_index message 6)
     → m.minor ≡ slice_index message 5 → IsRaw s m
 is_raw s message ring m parts first bytes place kind order minor =
     let w = whole s.limit s.rest (length message) first in
@@ -158,9 +158,9 @@ is_raw s message ring m parts first bytes place kind order minor =
     sym w.good.type_octet.0 ∙ ap (λ (x : List ℕ). slice_index x 7) parts
     ∙ octet-append message ring 7 long (omega arith) ∙ sym kind in
     let order_is : w.header.order ≡ m.order =
-    only_told (slice_index s.rest 6) w.header.order w.good.order_octet
-    ∙ ap (λ (x : List ℕ). order_told (slice_index x 6)) parts
-    ∙ ap order_told (octet-append message ring 6 long (omega arith)) ∙ sym order in
+    only_content (slice_index s.rest 6) w.header.order w.good.order_octet
+    ∙ ap (λ (x : List ℕ). order_of_flag (slice_index x 6)) parts
+    ∙ ap order_of_flag (octet-append message ring 6 long (omega arith)) ∙ sym order in
     let minor_is : w.header.minor ≡ m.minor =
     sym w.good.minor_octet ∙ ap (λ (x : List ℕ). slice_index x 5) parts
     ∙ octet-append message ring 5 long (omega arith) ∙ sym minor in

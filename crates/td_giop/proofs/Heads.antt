@@ -1,5 +1,5 @@
--- Heads: what is read is spelled so, what is spelled so is read, what is faulty is refused, and no reading wants
--- memory.
+-- Heads: what is read is spelled so, what is spelled so is read, what is faulty is refused, and no reading runs
+-- out of memory.
 use Rattle.std.proofs.Common.{◌≡◌, ◌≤◌, ℕ, zero, suc, Result, Ok, Err, ap}
 use Rattle.td_cdr.specs.declared.fault.CdrFault.{CdrFault}
 use Rattle.td_cdr.specs.declared.fault.CdrFault.TheVariants.{Memory}
@@ -9,7 +9,7 @@ use Rattle.td_cdr.specs.Faults.{ThenFault}
 use Rattle.td_cdr.specs.Joined.{ok_is}
 use Rattle.td_cdr.specs.Sound.{Sound, ◌&◌}
 use Rattle.td_giop.specs.Fields.{ulong, octet, boolean, octets, text, sequence}
-use Rattle.td_giop.specs.Heads.{alone, context, contexts, principal, reserved, request, reply, locate_request}
+use Rattle.td_giop.specs.Heads.{alone, context, contexts, principal, reserved_field, request, reply, locate_request}
 use Rattle.td_giop.specs.Heads.{locate_reply}
 use Rattle.td_giop.specs.Heads.{cancel_request}
 use Rattle.td_cdr.proofs.Items.{number-takes_none, octets-takes_none, boolean-takes_none, string-takes_none}
@@ -41,13 +41,13 @@ pub read-alone : {Y : Type 0} (g : Sound CdrFault Y) → IsReadAlone g (λ a. al
 read-alone {Y = Y} g = record {
   found = alone-found g;
   only = λ a v b rest h s e. ap (λ (r : Result (Y × At) CdrFault). alone r) (g.lawful.only a v b rest h s e);
-  told = λ a f h e. g.refuses.told a f h (alone-err (g.format.reads a) f e);
+  content = λ a f h e. g.refuses.content a f h (alone-err (g.format.reads a) f e);
   refused = λ a f h d. ap (λ (r : Result (Y × At) CdrFault). alone r) (g.refuses.only a f h d);
 }
 
--- ---- no reading wants memory
+-- ---- no reading runs out of memory
 
--- no fault is want of memory
+-- no fault is running out of memory
 abbrev TakesNone : {Y : Type 0} → Sound CdrFault Y → Type 0
 TakesNone g = (a : At) → g.faults a Memory → ⊥
 
@@ -63,7 +63,7 @@ sequence-takes_none g none a (ThenFault.second v next found d) = none d.next d.h
 contexts-takes_none : TakesNone contexts
 contexts-takes_none = sequence-takes_none context (pair-takes_none ulong octets (number-takes_none 4) octets-takes_none)
 
-reserved-takes_none : (minor : ℕ) → TakesNone (reserved minor)
+reserved-takes_none : (minor : ℕ) → TakesNone (reserved_field minor)
 reserved-takes_none zero = λ a d. d
 reserved-takes_none (suc newer) =
     pair-takes_none octet (octet & octet) (number-takes_none 1)
@@ -71,10 +71,10 @@ reserved-takes_none (suc newer) =
 
 pub request-takes_none : (minor : ℕ) → TakesNone (request minor)
 request-takes_none minor =
-    pair-takes_none contexts (ulong & boolean & reserved minor & octets & text & principal) contexts-takes_none
-    (pair-takes_none ulong (boolean & reserved minor & octets & text & principal) (number-takes_none 4)
-    (pair-takes_none boolean (reserved minor & octets & text & principal) boolean-takes_none
-    (pair-takes_none (reserved minor) (octets & text & principal) (reserved-takes_none minor)
+    pair-takes_none contexts (ulong & boolean & reserved_field minor & octets & text & principal) contexts-takes_none
+    (pair-takes_none ulong (boolean & reserved_field minor & octets & text & principal) (number-takes_none 4)
+    (pair-takes_none boolean (reserved_field minor & octets & text & principal) boolean-takes_none
+    (pair-takes_none (reserved_field minor) (octets & text & principal) (reserved-takes_none minor)
     (pair-takes_none octets (text & principal) octets-takes_none
     (pair-takes_none text principal string-takes_none octets-takes_none)))))
 
@@ -94,7 +94,7 @@ cancel_request-takes_none = number-takes_none 4
 
 pub reading-takes_none : {Y : Type 0} (g : Sound CdrFault Y) → TakesNone g → (a : At) → a.origin ≤ a.place
     → g.format.reads a ≡ Err Memory → ⊥
-reading-takes_none g none a h e = none a (g.refuses.told a Memory h e)
+reading-takes_none g none a h e = none a (g.refuses.content a Memory h e)
 
 pub alone-takes_none : {Y : Type 0} (g : Sound CdrFault Y) → TakesNone g → (a : At) → a.origin ≤ a.place
     → alone (g.format.reads a) ≡ Err Memory → ⊥

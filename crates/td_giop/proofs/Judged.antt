@@ -10,7 +10,7 @@ use Rattle.td_cdr.specs.Reading.{number}
 use Rattle.td_giop.specs.declared.fault.FrameFault.{FrameFault}
 use Rattle.td_giop.specs.declared.fault.FrameFault.TheVariants.{BadMagic, BadVersion, BadType, TooLarge, Fragmented}
 use Rattle.td_giop.specs.Header.{GoodHeader, FirstFault, HasMagic, HasVersion, IsFragmented, TellsOrder, has_magic}
-use Rattle.td_giop.specs.Header.{has_version, is_fragmented, order_told, size_told, header_at, Judged}
+use Rattle.td_giop.specs.Header.{has_version, is_fragmented, order_of_flag, size_in_header, header_at, JudgesHeader}
 use Rattle.td_giop.proofs.Cond.{cond_case, both_true, and_true}
 
 -- ---- tests and what they test
@@ -56,35 +56,35 @@ is_false b p q = cc
 eqb-false : (a b : ℕ) → eqb a b ≡ false → a ≡ b → ⊥
 eqb-false a b e p = is_false (eqb a b) (eq-eqb a b p) e
 
-pub told : (octet : ℕ) → TellsOrder octet (order_told octet)
-told octet = cond_case (TellsOrder octet) (eqb (octet % 2) 0) Big Little
+pub content : (octet : ℕ) → TellsOrder octet (order_of_flag octet)
+content octet = cond_case (TellsOrder octet) (eqb (octet % 2) 0) Big Little
     (λ e. eqb-true _ _ e)
     (λ e. let h = eqb-false (octet % 2) 0 e in omega (arith, h))
 
-pub only_told : (octet : ℕ) (order : Order) → TellsOrder octet order → order ≡ order_told octet
-only_told octet Big e = rw (eq-eqb (octet % 2) 0 e) refl
-only_told octet Little e =
+pub only_content : (octet : ℕ) (order : Order) → TellsOrder octet order → order ≡ order_of_flag octet
+only_content octet Big e = rw (eq-eqb (octet % 2) 0 e) refl
+only_content octet Little e =
     let one : octet % 2 ≡ 1 = e in
     let no : eqb (octet % 2) 0 ≡ false = rw one refl in
     rw no refl
 
 -- ---- each answer, with what it says
 
-pub judged : (limit : ℕ) (bytes : List ℕ) → Judged limit bytes (header_at limit bytes)
+pub judged : (limit : ℕ) (bytes : List ℕ) → JudgesHeader limit bytes (header_at limit bytes)
 unfolding header_at
 judged limit bytes =
-    let order = order_told (slice_index bytes 6) in
-    cond_case (Judged limit bytes) (ltb (length bytes) 12) _ _
+    let order = order_of_flag (slice_index bytes 6) in
+    cond_case (JudgesHeader limit bytes) (ltb (length bytes) 12) _ _
     (λ short. ltb-true _ _ short)
     (λ long. let there : 12 ≤ length bytes = ltb-false _ _ long in
-    cond_case (Judged limit bytes) (not (has_magic bytes)) _ _
+    cond_case (JudgesHeader limit bytes) (not (has_magic bytes)) _ _
     (λ e. (
       there,
       λ (m : HasMagic bytes).
           is_false (has_magic bytes) (magic_test bytes m) (not_true (has_magic bytes) e),
     ))
     (λ m. let magic = magic_true bytes (not_false (has_magic bytes) m) in
-    cond_case (Judged limit bytes) (not (has_version bytes)) _ _
+    cond_case (JudgesHeader limit bytes) (not (has_version bytes)) _ _
     (λ e. (
       there,
       (
@@ -94,14 +94,14 @@ judged limit bytes =
       ),
     ))
     (λ v. let version = version_true bytes (not_false (has_version bytes) v) in
-    cond_case (Judged limit bytes) (is_fragmented bytes) _ _
+    cond_case (JudgesHeader limit bytes) (is_fragmented bytes) _ _
     (λ e. (there, (magic, version, fragmented_true bytes e)))
     (λ w. let one : IsFragmented bytes → ⊥ = λ (f : IsFragmented bytes).
     is_false (is_fragmented bytes) (fragmented_test bytes f) w in
-    cond_case (Judged limit bytes) (ltb 6 (slice_index bytes 7)) _ _
+    cond_case (JudgesHeader limit bytes) (ltb 6 (slice_index bytes 7)) _ _
     (λ e. (there, (magic, version, one, ltb-true _ _ e)))
     (λ t. let known : slice_index bytes 7 ≤ 6 = ltb-false _ _ t in
-    cond_case (Judged limit bytes) (ltb limit (size_told order bytes)) _ _
+    cond_case (JudgesHeader limit bytes) (ltb limit (size_in_header order bytes)) _ _
     (λ e. (
       there,
       (
@@ -110,7 +110,7 @@ judged limit bytes =
         one,
         known,
         λ (o : Order) (h : TellsOrder (slice_index bytes 6) o).
-            subst (λ (x : Order). limit < number x 4 (drop 8 bytes)) (sym (only_told (slice_index bytes 6) o h))
+            subst (λ (x : Order). limit < number x 4 (drop 8 bytes)) (sym (only_content (slice_index bytes 6) o h))
             (ltb-true _ _ e),
       ),
     ))
@@ -120,7 +120,7 @@ judged limit bytes =
       version = version;
       minor_octet = refl;
       unfragmented = one;
-      order_octet = told (slice_index bytes 6);
+      order_octet = content (slice_index bytes 6);
       type_octet = (refl, known);
       size_field = refl;
       within = ltb-false _ _ s;
@@ -132,8 +132,8 @@ number-append : (order : Order) (n : ℕ) (xs ys : List ℕ) → n ≤ length xs
 number-append Big n xs ys h = big_from-append n xs ys h
 number-append Little n xs ys h = little_from-append n xs ys h
 
-pub size_told-append : (order : Order) (s p : List ℕ) → 12 ≤ length s → size_told order (s ++ p) ≡ size_told order s
-size_told-append order s p h =
+pub size_in_header-append : (order : Order) (s p : List ℕ) → 12 ≤ length s → size_in_header order (s ++ p) ≡ size_in_header order s
+size_in_header-append order s p h =
     ap (number order 4) (drop-append-le 8 s p (omega arith))
     ∙ number-append order 4 (drop 8 s) p (omega (arith, length-drop 8 s))
 
@@ -153,7 +153,7 @@ header_at-append limit s p h =
     let e5 = octet-append s p 5 h (omega arith) in
     let e6 = octet-append s p 6 h (omega arith) in
     let e7 = octet-append s p 7 h (omega arith) in
-    let e8 = size_told-append (order_told (slice_index s 6)) s p h in
+    let e8 = size_in_header-append (order_of_flag (slice_index s 6)) s p h in
     rw (there, still, e0, e1, e2, e3, e4, e5, e6, e7, e8) refl
 
 -- ---- what is so is answered
@@ -173,10 +173,10 @@ good_at limit bytes minor order kind size g =
     let one : is_fragmented bytes ≡ false =
     true_or_false (is_fragmented bytes) (λ f. g.unfragmented (fragmented_true bytes f)) in
     let known : ltb 6 kind ≡ false = le-ltb _ _ g.type_octet.1 in
-    let told_is : order_told (slice_index bytes 6) ≡ order =
-    sym (only_told (slice_index bytes 6) order g.order_octet) in
+    let content_is : order_of_flag (slice_index bytes 6) ≡ order =
+    sym (only_content (slice_index bytes 6) order g.order_octet) in
     let small : ltb limit size ≡ false = le-ltb _ _ g.within in
-    rw (there, magic, version, one, g.type_octet.0, known, told_is, g.size_field, small, g.minor_octet) refl
+    rw (there, magic, version, one, g.type_octet.0, known, content_is, g.size_field, small, g.minor_octet) refl
 
 pub cut_at : (limit : ℕ) (bytes : List ℕ) → length bytes < 12 → header_at limit bytes ≡ Ok None
 unfolding header_at
@@ -213,6 +213,6 @@ fault_at limit bytes TooLarge h e =
     let version = version_test bytes e.1 in
     let one = true_or_false (is_fragmented bytes) (λ f. e.2 (fragmented_true bytes f)) in
     let known : ltb 6 (slice_index bytes 7) ≡ false = le-ltb _ _ e.3 in
-    let above : ltb limit (size_told (order_told (slice_index bytes 6)) bytes) ≡ true =
-    lt-ltb _ _ (e.4 (order_told (slice_index bytes 6)) (told (slice_index bytes 6))) in
+    let above : ltb limit (size_in_header (order_of_flag (slice_index bytes 6)) bytes) ≡ true =
+    lt-ltb _ _ (e.4 (order_of_flag (slice_index bytes 6)) (content (slice_index bytes 6))) in
     rw (there, magic, version, one, known, above) refl

@@ -10,7 +10,7 @@ use Rattle.td_cdr.specs.Joined.{length-bytes_of}
 use Rattle.td_cdr.specs.Writing.{written_number, written_octets}
 use Rattle.td_giop.specs.declared.message_type.TheConstants.{REQUEST, REPLY, LOCATE_REQUEST, LOCATE_REPLY}
 use Rattle.td_giop.specs.Fields as field
-use Rattle.td_giop.specs.Heads.{reserved as some_reserved}
+use Rattle.td_giop.specs.Heads.{reserved_field as some_reserved}
 use Rattle.td_giop.proofs.Reserved.{some-reserved}
 use Rattle.td_giop.proofs.ByField.{◌▹◌, request_by_field, reply_by_field, locate_by_field, locate_reply_by_field}
 use Rattle.td_giop.proofs.ByField.{reply_is, locate_reply_is}

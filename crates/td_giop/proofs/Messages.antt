@@ -18,11 +18,11 @@ use Rattle.td_giop.specs.declared.header.TheConstants.{NEWEST_MINOR}
 use Rattle.td_giop.specs.declared.message_type.TheConstants.{REQUEST, REPLY, LOCATE_REQUEST, LOCATE_REPLY}
 use Rattle.td_giop.specs.Header.{GoodHeader, TellsOrder}
 use Rattle.td_giop.specs.Fields.{ulong, octet, boolean, octets, text}
-use Rattle.td_giop.specs.Heads.{Request, Reply, alone, behind_header, contexts, principal, reserved, request}
+use Rattle.td_giop.specs.Heads.{Request, Reply, alone, behind_header, contexts, principal, reserved_field, request}
 use Rattle.td_giop.specs.Heads.{request_at, reply}
 use Rattle.td_giop.specs.Heads.{reply_at, locate_request, locate_at, locate_reply, locate_reply_at}
 use Rattle.td_giop.specs.Written.{header_written, message, request_start, reply_start, locate_written}
-use Rattle.td_giop.specs.Written.{locate_reply_written, sealed, at_body, IsSealed}
+use Rattle.td_giop.specs.Written.{locate_reply_written, seal_size, at_body, IsSealed}
 use Rattle.td_cdr.specs.Joined.{length-bytes_of}
 use Rattle.td_giop.proofs.Heads.{read-alone}
 
@@ -32,7 +32,7 @@ abbrev front : Order → ℕ → ℕ → List ℕ
 front order minor kind = 71 ∷ 73 ∷ 79 ∷ 80 ∷ 1 ∷ minor ∷ flag order ∷ kind ∷ []
 
 sealed_parts : (order : Order) (minor kind : ℕ) (x : List ℕ)
-    → sealed order (header_written order minor kind ++ x) ≡ front order minor kind ++ bytes_of order 4 (length x) ++ x
+    → seal_size order (header_written order minor kind ++ x) ≡ front order minor kind ++ bytes_of order 4 (length x) ++ x
 sealed_parts order minor kind x =
     let size : length (header_written order minor kind ++ x) - 12 ≡ length x =
     omega (arith, length-append (header_written order minor kind) x) in
@@ -71,7 +71,7 @@ pub sealed_message : (limit minor : ℕ) (order : Order) (kind : ℕ) (start bac
     → start ≡ header_written order minor kind ++ back → minor ≤ NEWEST_MINOR → kind ≤ 6
     → length (start ++ body) < 2 ^ 32
     → length (start ++ body) ≤ limit + 12
-    → GoodHeader limit (sealed order (start ++ body)) minor order kind (length (start ++ body) - 12)
+    → GoodHeader limit (seal_size order (start ++ body)) minor order kind (length (start ++ body) - 12)
 sealed_message limit minor order kind start back body e newest known short small =
     let x = back ++ body in
     let long : length (start ++ body) ≡ 12 + length x =
@@ -80,20 +80,20 @@ sealed_message limit minor order kind start back body e newest known short small
     omega (arith, length-append (header_written order minor kind) x) in
     n) in
     let size : length x ≡ length (start ++ body) - 12 = omega (arith, long) in
-    let parts : front order minor kind ++ bytes_of order 4 (length x) ++ x ≡ sealed order (start ++ body) =
-    sym (ap (λ (s : List ℕ). sealed order (s ++ body)) e ∙ sealed_parts order minor kind x) in
+    let parts : front order minor kind ++ bytes_of order 4 (length x) ++ x ≡ seal_size order (start ++ body) =
+    sym (ap (λ (s : List ℕ). seal_size order (s ++ body)) e ∙ sealed_parts order minor kind x) in
     let good =
     sealed_good limit minor order kind x newest known (omega (arith, long, short)) (omega (arith, long, small)) in
-    subst (λ (n : ℕ). GoodHeader limit (sealed order (start ++ body)) minor order kind n) size
+    subst (λ (n : ℕ). GoodHeader limit (seal_size order (start ++ body)) minor order kind n) size
     (subst (λ (m : List ℕ). GoodHeader limit m minor order kind (length x)) parts good)
 
 -- behind the header stands what was written there
 behind_sealed : (order : Order) (minor kind : ℕ) (start back body : List ℕ)
     → start ≡ header_written order minor kind ++ back
-    → drop 12 (sealed order (start ++ body)) ≡ back ++ body
+    → drop 12 (seal_size order (start ++ body)) ≡ back ++ body
 behind_sealed order minor kind start back body e =
     let x = back ++ body in
-    ap (λ (s : List ℕ). drop 12 (sealed order (s ++ body))) e ∙ ap (drop 12) (sealed_parts order minor kind x)
+    ap (λ (s : List ℕ). drop 12 (seal_size order (s ++ body))) e ∙ ap (drop 12) (sealed_parts order minor kind x)
     ∙ drop_at (bytes_of order 4 (length x)) x 4 (length-bytes_of order 4 (length x))
 
 -- ---- what is written of a head spells it
@@ -139,7 +139,7 @@ no_principal-written order place = ([], octets-written [] (omega arith) order pl
 octet-written : (v : ℕ) → v < 2 ^ 8 → IsWritten octet v
 octet-written v small order place = written_number-spelled 1 order place v small
 
-reserved-written : (minor : ℕ) → IsWritten (reserved minor) tt
+reserved-written : (minor : ℕ) → IsWritten (reserved_field minor) tt
 reserved-written zero order place = (refl, refl)
 reserved-written (suc newer) order place =
     let zero-written = octet-written 0 (omega arith) in (
@@ -151,13 +151,13 @@ reserved-written (suc newer) order place =
 request-written : (minor : ℕ) (v : Request) → v.id < 2 ^ 32 → length v.key < 2 ^ 32 → length v.operation + 1 < 2 ^ 32
     → HasNoNul v.operation → IsWritten (request minor) v
 request-written minor v small short brief free =
-    both-written contexts (ulong & boolean & reserved minor & octets & text & principal) tt
+    both-written contexts (ulong & boolean & reserved_field minor & octets & text & principal) tt
     (v.id, (v.answered, (tt, (v.key, (v.operation, tt))))) no_contexts-written
-    (both-written ulong (boolean & reserved minor & octets & text & principal) v.id
+    (both-written ulong (boolean & reserved_field minor & octets & text & principal) v.id
     (v.answered, (tt, (v.key, (v.operation, tt)))) (ulong-written v.id small)
-    (both-written boolean (reserved minor & octets & text & principal) v.answered (tt, (v.key, (v.operation, tt)))
+    (both-written boolean (reserved_field minor & octets & text & principal) v.answered (tt, (v.key, (v.operation, tt)))
     (λ order place. written_boolean-spelled order place v.answered)
-    (both-written (reserved minor) (octets & text & principal) tt (v.key, (v.operation, tt)) (reserved-written minor)
+    (both-written (reserved_field minor) (octets & text & principal) tt (v.key, (v.operation, tt)) (reserved-written minor)
     (both-written octets (text & principal) v.key (v.operation, tt) (octets-written v.key short)
     (both-written text principal v.operation tt
     (λ order place. written_string-spelled order place v.operation free brief) no_principal-written)))))
@@ -170,12 +170,12 @@ reply-written v small low =
 -- ---- a head is read back
 
 head_back : {Y : Type 0} (g : Sound CdrFault Y) (order : Order) (minor kind : ℕ) (v : Y) (body : List ℕ) → IsWritten g v
-    → g.format.reads (behind_header order (sealed order (message minor kind (g.format.writes v) order ++ body)))
+    → g.format.reads (behind_header order (seal_size order (message minor kind (g.format.writes v) order ++ body)))
     ≡ Ok (v, at_body order (message minor kind (g.format.writes v) order) body)
 head_back {Y = Y} g order minor kind v body w =
     let b = g.format.writes v order 12 in
     let start = message minor kind (g.format.writes v) order in
-    let m = sealed order (start ++ body) in
+    let m = seal_size order (start ++ body) in
     let rest : drop 12 m ≡ b ++ body = behind_sealed order minor kind start b body refl in
     let read = g.lawful.only (behind_header order m) v b body (omega arith) (w order 12) rest in
     let place : 12 + length b ≡ length start = omega (arith, length-append (header_written order minor kind) b) in
@@ -185,21 +185,21 @@ head_back {Y = Y} g order minor kind v body w =
     read ∙ ap (λ (r : List ℕ). answered r (12 + length b)) left ∙ ap (answered body) place
 
 alone_back : {Y : Type 0} (g : Sound CdrFault Y) (order : Order) (minor kind : ℕ) (v : Y) → IsWritten g v
-    → alone (g.format.reads (behind_header order (sealed order (message minor kind (g.format.writes v) order)))) ≡ Ok v
+    → alone (g.format.reads (behind_header order (seal_size order (message minor kind (g.format.writes v) order)))) ≡ Ok v
 alone_back g order minor kind v w =
     let b = g.format.writes v order 12 in
     let start = message minor kind (g.format.writes v) order in
-    let rest : drop 12 (sealed order start) ≡ b ++ [] =
-    sym (ap (λ (m : List ℕ). drop 12 (sealed order m)) (append-nil start))
+    let rest : drop 12 (seal_size order start) ≡ b ++ [] =
+    sym (ap (λ (m : List ℕ). drop 12 (seal_size order m)) (append-nil start))
     ∙ behind_sealed order minor kind start b [] refl in
-    (read-alone g).only (behind_header order (sealed order start)) v b [] (omega arith) (w order 12) rest
+    (read-alone g).only (behind_header order (seal_size order start)) v b [] (omega arith) (w order 12) rest
 
 -- ---- each message
 
 pub request_back : (order : Order) (minor id : ℕ) (answered : Bool) (key operation body : List ℕ) → id < 2 ^ 32
     → length key < 2 ^ 32 → length operation + 1 < 2 ^ 32 → HasNoNul operation
     → request_at minor
-    (behind_header order (sealed order (request_start order minor id answered key operation ++ body)))
+    (behind_header order (seal_size order (request_start order minor id answered key operation ++ body)))
     ≡ Ok (
       record { id = id; answered = answered; key = key; operation = operation },
       at_body order (request_start order minor id answered key operation) body,
@@ -210,7 +210,7 @@ request_back order minor id answered key operation body small short brief free =
     head_back (request minor) order minor REQUEST v body (request-written minor v small short brief free)
 
 pub reply_back : (order : Order) (minor id status : ℕ) (body : List ℕ) → id < 2 ^ 32 → status < 2 ^ 32
-    → reply_at (behind_header order (sealed order (reply_start order minor id status ++ body)))
+    → reply_at (behind_header order (seal_size order (reply_start order minor id status ++ body)))
     ≡ Ok (record { id = id; status = status }, at_body order (reply_start order minor id status) body)
 unfolding reply_at reply_start
 reply_back order minor id status body small low =
@@ -218,14 +218,14 @@ reply_back order minor id status body small low =
     head_back reply order minor REPLY v body (reply-written v small low)
 
 pub locate_back : (order : Order) (minor id : ℕ) (key : List ℕ) → id < 2 ^ 32 → length key < 2 ^ 32
-    → locate_at (behind_header order (sealed order (locate_written order minor id key))) ≡ Ok (id, key)
+    → locate_at (behind_header order (seal_size order (locate_written order minor id key))) ≡ Ok (id, key)
 unfolding locate_at locate_written
 locate_back order minor id key small short =
     alone_back locate_request order minor LOCATE_REQUEST (id, key)
     (both-written ulong octets id key (ulong-written id small) (octets-written key short))
 
 pub locate_reply_back : (order : Order) (minor id status : ℕ) → id < 2 ^ 32 → status < 2 ^ 32
-    → locate_reply_at (behind_header order (sealed order (locate_reply_written order minor id status)))
+    → locate_reply_at (behind_header order (seal_size order (locate_reply_written order minor id status)))
     ≡ Ok (id, status)
 unfolding locate_reply_at locate_reply_written
 locate_reply_back order minor id status small low =

@@ -4,7 +4,7 @@ use Rattle.std.proofs.Common.{length-append}
 use Rattle.td_cdr.specs.declared.order.Order.{Order}
 use Rattle.td_cdr.specs.Writing.{Draft, written_number, written_octets}
 use Rattle.td_giop.specs.declared.message_type.TheConstants.{REQUEST}
-use Rattle.td_giop.specs.Heads.{reserved}
+use Rattle.td_giop.specs.Heads.{reserved_field}
 use Rattle.td_giop.specs.Written.{header_written, octets_end, request_size}
 use Rattle.td_giop.proofs.Lengths.{written_number_length, written_octets_length}
 use Rattle.td_giop.proofs.Reserved.{some-reserved}
@@ -27,14 +27,14 @@ octeted new old place order v e l =
     (ap (λ (p : ℕ). length (written_octets order p v)) l ∙ written_octets_length order place v)
 
 keyed : (minor : ℕ) (order after : Order) (d4 d5 d6 key : List ℕ) → length d4 ≡ 21
-    → d5 ≡ d4 ++ (reserved minor).format.writes tt order (length d4)
+    → d5 ≡ d4 ++ (reserved_field minor).format.writes tt order (length d4)
     → d6 ≡ d5 ++ written_octets after (length d5) key → length d6 ≡ octets_end 21 (length key)
 keyed zero order after d4 d5 d6 key l e f =
     octeted d6 d5 21 after key f (longer d5 d4 [] 21 0 e l (omega arith))
 keyed (suc newer) order after d4 d5 d6 key l e f =
     let three = ap (length {A = ℕ}) (some-reserved newer order (length d4)) in
     let there : length d5 ≡ 24 =
-    longer d5 d4 ((reserved (suc newer)).format.writes tt order (length d4)) 21 3 e l three in
+    longer d5 d4 ((reserved_field (suc newer)).format.writes tt order (length d4)) 21 3 e l three in
     let end : octets_end 24 (length key) ≡ octets_end 21 (length key) = omega arith in
     octeted d6 d5 24 after key f there ∙ end
 
@@ -43,7 +43,7 @@ pub key_written : (d0 d1 d2 d3 d4 d5 d6 : Draft) (minor id flag : ℕ) (key : Li
     → d2.bytes ≡ d1.bytes ++ written_number 4 d1.order (length d1.bytes) 0
     → d3.bytes ≡ d2.bytes ++ written_number 4 d2.order (length d2.bytes) id
     → d4.bytes ≡ d3.bytes ++ written_number 1 d3.order (length d3.bytes) flag
-    → d5.bytes ≡ d4.bytes ++ (reserved minor).format.writes tt d4.order (length d4.bytes)
+    → d5.bytes ≡ d4.bytes ++ (reserved_field minor).format.writes tt d4.order (length d4.bytes)
     → d6.bytes ≡ d5.bytes ++ written_octets d5.order (length d5.bytes) key
     → length d6.bytes ≡ octets_end 21 (length key)
 key_written d0 d1 d2 d3 d4 d5 d6 minor id flag key none a b c d e f =

@@ -10,8 +10,8 @@ use Rattle.td_giop.specs.Stream.{Stream, first_at}
 use Rattle.td_giop.specs.declared.header.TheConstants.{HEADER_SIZE}
 
 -- the framer is as it was, once what it lent has come back
-abbrev pub Stays : MutBor Framer → Fml
-Stays s = follows_so the_row the_row s.ghost_name none (λ _ _. ⊤) (λ n. n ≡ s.now)
+abbrev pub KeepsFramer : MutBor Framer → Fml
+KeepsFramer s = follows_so the_row the_row s.ghost_name none (λ _ _. ⊤) (λ n. n ≡ s.now)
 
 -- m is the whole message in front of the stream, with what its header tells
 pub record IsRaw (s : Stream) (m : Raw) : Type 0 where

@@ -72,11 +72,11 @@ abbrev pub is_fragmented : List ℕ → Bool
 is_fragmented bytes = nat_lt 0 (slice_index bytes MINOR_PLACE)
     && nat_le 2 (slice_index bytes ORDER_PLACE % 4)
 
-abbrev pub order_told : ℕ → Order
-order_told octet = if nat_eq (octet % 2) 0 then Big else Little
+abbrev pub order_of_flag : ℕ → Order
+order_of_flag octet = if nat_eq (octet % 2) 0 then Big else Little
 
-abbrev pub size_told : Order → List ℕ → ℕ
-size_told order bytes = number order 4 (drop SIZE_PLACE bytes)
+abbrev pub size_in_header : Order → List ℕ → ℕ
+size_in_header order bytes = number order 4 (drop SIZE_PLACE bytes)
 
 -- the header in front, none where its octets aren't there yet, or the first fault in the order magic,
 -- version, flags, type, size
@@ -87,12 +87,12 @@ header_at limit bytes =
     else if not (has_version bytes) then Err BadVersion
     else if is_fragmented bytes then Err Fragmented
     else if nat_lt MESSAGE_ERROR (slice_index bytes TYPE_PLACE) then Err BadType
-    else if nat_lt limit (size_told (order_told (slice_index bytes ORDER_PLACE)) bytes)
+    else if nat_lt limit (size_in_header (order_of_flag (slice_index bytes ORDER_PLACE)) bytes)
     then Err TooLarge
     else Ok (Some (record {
       kind = slice_index bytes TYPE_PLACE;
-      order = order_told (slice_index bytes ORDER_PLACE);
-      size = size_told (order_told (slice_index bytes ORDER_PLACE)) bytes;
+      order = order_of_flag (slice_index bytes ORDER_PLACE);
+      size = size_in_header (order_of_flag (slice_index bytes ORDER_PLACE)) bytes;
       minor = slice_index bytes MINOR_PLACE;
     }))
 
@@ -115,7 +115,7 @@ abbrev pub IsFault : FrameFault → ℕ → List ℕ → Type 0
 IsFault fault limit bytes = (HEADER_SIZE ≤ length bytes) × FirstFault fault limit bytes
 
 -- what an answer says of the bytes
-abbrev pub Judged : ℕ → List ℕ → Result (Option Header) FrameFault → Type 0
-Judged limit bytes (Ok None) = length bytes < HEADER_SIZE
-Judged limit bytes (Ok (Some h)) = GoodHeader limit bytes h.minor h.order h.kind h.size
-Judged limit bytes (Err fault) = IsFault fault limit bytes
+abbrev pub JudgesHeader : ℕ → List ℕ → Result (Option Header) FrameFault → Type 0
+JudgesHeader limit bytes (Ok None) = length bytes < HEADER_SIZE
+JudgesHeader limit bytes (Ok (Some h)) = GoodHeader limit bytes h.minor h.order h.kind h.size
+JudgesHeader limit bytes (Err fault) = IsFault fault limit bytes

@@ -45,9 +45,9 @@ reserved_octets = placeholder (0, (0, 0)) (octet & octet & octet)
     (omega arith, (omega arith, omega arith))
 
 -- version 1.0 has none
-abbrev pub reserved : (minor : ℕ) → Sound CdrFault (Unit {0})
-reserved zero = constant tt
-reserved (suc newer) = reserved_octets
+abbrev pub reserved_field : (minor : ℕ) → Sound CdrFault (Unit {0})
+reserved_field zero = constant tt
+reserved_field (suc newer) = reserved_octets
 
 abbrev pub request_of : Unit {0} × (ℕ × (Bool × (Unit {0} × (List ℕ × (List ℕ × Unit {0})))))
     → Request
@@ -62,7 +62,7 @@ request_of p = record {
 abbrev pub request : (minor : ℕ) → Sound CdrFault Request
 request minor =
     structure request_of (λ x. (tt, (x.id, (x.answered, (tt, (x.key, (x.operation, tt)))))))
-    (λ _. refl) (λ _. refl) (contexts & ulong & boolean & reserved minor & octets & text &
+    (λ _. refl) (λ _. refl) (contexts & ulong & boolean & reserved_field minor & octets & text &
     principal)
 
 abbrev pub reply_of : Unit {0} × (ℕ × ℕ) → Reply
@@ -102,8 +102,8 @@ behind_header order bytes = record {
 }
 
 -- a reading whose value is dropped
-abbrev pub passed : {F Y : Type 0} → Read F Y → Read F (Unit {0})
-passed r = r >>= λ v. Ok (tt, v.1)
+abbrev pub skip_value : {F Y : Type 0} → Read F Y → Read F (Unit {0})
+skip_value r = r >>= λ v. Ok (tt, v.1)
 
 -- the head of a Request of this minor version, and where its parameters begin
 unfoldable pub request_at : (minor : ℕ) → At → Result (Request × At) CdrFault

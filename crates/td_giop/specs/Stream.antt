@@ -27,10 +27,10 @@ unfoldable pub first_at : ℕ → List ℕ → Result (Option ℕ) FrameFault
 first_at limit bytes = whole_within (length bytes) (header_at limit bytes)
 
 -- the stream without the whole message in front
-abbrev pub dropped : Stream → Result (Option ℕ) FrameFault → Stream
-dropped s (Ok (Some size)) = record s { start = s.start + size; rest = drop size s.rest }
-dropped s (Ok None) = s
-dropped s (Err f) = s
+abbrev pub without_first : Stream → Result (Option ℕ) FrameFault → Stream
+without_first s (Ok (Some size)) = record s { start = s.start + size; rest = drop size s.rest }
+without_first s (Ok None) = s
+without_first s (Err f) = s
 
 -- a message began and isn't whole
 pub record IsInside (s : Stream) : Type 0 where
@@ -38,7 +38,7 @@ pub record IsInside (s : Stream) : Type 0 where
   pub goes_on : first_at s.limit s.rest ≡ Ok None
 
 -- The message is nothing or the whole message in front of the stream, and there is room for any that may follow it.
-pub record IsFront (limit : ℕ) (message : Vec ℕ) (ring : List ℕ) : Type 0 where
+pub record IsFrontOfStream (limit : ℕ) (message : Vec ℕ) (ring : List ℕ) : Type 0 where
   pub front : (length message.items ≡ 0)
       ⊎ (first_at limit (message.items ++ ring) ≡ Ok (Some (length message.items)))
   pub room : length ring ≤ vec_capacity message

@@ -54,8 +54,8 @@ request_size key operation = octets_end (octets_end (octets_end (HEADER_SIZE + 9
 -- ---- a sealed message
 
 -- the same bytes with the size of what follows the header in its field
-abbrev pub sealed : Order → List ℕ → List ℕ
-sealed order bytes = take SIZE_PLACE bytes ++ bytes_of order 4 (length bytes - HEADER_SIZE)
+abbrev pub seal_size : Order → List ℕ → List ℕ
+seal_size order bytes = take SIZE_PLACE bytes ++ bytes_of order 4 (length bytes - HEADER_SIZE)
     ++ drop HEADER_SIZE bytes
 
 -- where a reader stands once it has read a start
@@ -66,4 +66,4 @@ at_body order start body = record { rest = body; place = length start; origin = 
 pub record IsSealed (limit : ℕ) (minor : ℕ) (order : Order) (kind : ℕ)
     (bytes : List ℕ) : Type 0 where
   pub good : length bytes < 2 ^ 32 → length bytes ≤ limit + HEADER_SIZE
-      → GoodHeader limit (sealed order bytes) minor order kind (length bytes - HEADER_SIZE)
+      → GoodHeader limit (seal_size order bytes) minor order kind (length bytes - HEADER_SIZE)

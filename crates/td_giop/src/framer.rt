@@ -3,7 +3,7 @@
 ghost use Rattle.std.specs.Prelude.{◌≡◌, ◌+◌, ◌<◌, ◌≤◌, ◌^◌, [], ◌++◌, length, take, drop, MatchResult, MatchOption};
 ghost use Rattle.std.specs.Prelude.{MatchBool, OnOk, OnErr, IfOk, IfSome, SomeIff, vec_capacity};
 ghost use Rattle.std.specs.Borrow.{sem};
-ghost use Rattle.td_giop.specs.Stream.{first_at, dropped, IsInside, IsFront};
+ghost use Rattle.td_giop.specs.Stream.{first_at, without_first, IsInside, IsFrontOfStream};
 
 use crate::fault::FrameFault;
 use crate::header::{HEADER_SIZE, MINOR_PLACE, ORDER_PLACE, TYPE_PLACE, judge, order_of};
@@ -31,7 +31,7 @@ pub struct Framer {
 
 impl Model for Framer {
     ghost use Rattle.std.specs.Prelude.{◌++◌, ◌+◌, ◌<◌, ◌^◌, length};
-    ghost use Rattle.td_giop.specs.Stream.{Stream, IsFront};
+    ghost use Rattle.td_giop.specs.Stream.{Stream, IsFrontOfStream};
 
     ghost Value = { Stream };
 
@@ -42,17 +42,17 @@ impl Model for Framer {
     } };
 
     ghost invariant = { λ f. (f.start + length (f.message.items ++ f.ring.items) < 2 ^ 64)
-        × IsFront f.limit f.message f.ring.items };
+        × IsFrontOfStream f.limit f.message f.ring.items };
 }
 
 impl Framer {
-    ghost use Rattle.td_giop.specs.FramerLends.{Stays, IsRaw};
+    ghost use Rattle.td_giop.specs.FramerLends.{KeepsFramer, IsRaw};
 
     /// A framer at the beginning of a stream. `limit` is the most bytes that may follow a header.
     ///
     /// # Errors
     ///
-    /// `Memory` for want of memory alone.
+    /// `Memory` only when out of memory.
     pub fn new(alloc: Global, limit: u32) -> Result<Framer, Memory>
         ensures { IfOk result (λ f. f ≡ record { start = 0; rest = []; limit = limit }) }
     {
@@ -68,7 +68,7 @@ impl Framer {
     ///
     /// # Errors
     ///
-    /// `Memory` for want of memory alone; the framer is then unchanged.
+    /// `Memory` only when out of memory; the framer is then unchanged.
     pub fn feed(&mut self, piece: &[u8]) -> Result<(), Memory>
         requires { self.old.start + (length self.old.rest + length piece.now) < 2 ^ 64 }
         ensures ok { OnOk result (self.new
@@ -88,12 +88,12 @@ impl Framer {
     ///
     /// The fault of the header in front, each time again.
     pub fn next_message(&mut self) -> Result<Option<Raw<'_>>, FrameFault>
-        ensures* stays { sem 𝓛 (Stays self.entry) }
+        ensures* stays { sem 𝓛 (KeepsFramer self.entry) }
         ensures found { MatchResult result
             (λ o. MatchOption o (first_at self.old.limit self.old.rest ≡ Ok None)
             (λ m. IsRaw self.old m)) (λ e. first_at self.old.limit self.old.rest ≡ Err e) }
     {
-        if !settle(&mut self.ring, &mut self.message, self.limit)? {
+        if !complete_message(&mut self.ring, &mut self.message, self.limit)? {
             return Ok(None);
         }
         Ok(Some(Raw {
@@ -110,7 +110,8 @@ impl Framer {
     pub fn drop_message(&mut self)
         ensures end { self.new.start + length self.new.rest
             ≡ self.old.start + length self.old.rest }
-        ensures dropped { self.new ≡ dropped self.old (first_at self.old.limit self.old.rest) }
+        ensures dropped { self.new ≡ without_first self.old
+            (first_at self.old.limit self.old.rest) }
     {
         let front = self.message.len();
         if front > 0 {
@@ -160,14 +161,14 @@ fn make_room(ring: &mut HeapCircularBuffer<u8>, wanted: usize) -> Result<(), Mem
 }
 
 /// Whether a message is whole. If so it stands in `message` afterwards.
-fn settle(
+fn complete_message(
     ring: &mut HeapCircularBuffer<u8>,
     message: &mut Vec<u8>,
     limit: u32,
 ) -> Result<bool, FrameFault>
-    requires { IsFront limit message.old ring.old.items }
+    requires { IsFrontOfStream limit message.old ring.old.items }
     ensures same { message.new.items ++ ring.new.items ≡ message.old.items ++ ring.old.items }
-    ensures front { IsFront limit message.new ring.new.items }
+    ensures front { IsFrontOfStream limit message.new ring.new.items }
     ensures found { MatchResult result
         (λ b. MatchBool b (first_at limit (message.old.items ++ ring.old.items)
         ≡ Ok (Some (length message.new.items)))

@@ -3,7 +3,8 @@
 
 ghost use Rattle.std.specs.Prelude.{◌≡◌, ◌≤◌, ◌<◌, ◌^◌, length, drop, MatchResult};
 ghost use Rattle.td_cdr.specs.Format.{Shows, array_format};
-ghost use Rattle.td_giop.specs.Heads.{behind_header, passed, context, contexts, reserved, Request, request_at, Reply};
+ghost use Rattle.td_giop.specs.Heads.{behind_header, skip_value, context, contexts, reserved_field, Request};
+ghost use Rattle.td_giop.specs.Heads.{request_at, Reply};
 ghost use Rattle.td_giop.specs.Heads.{reply_at, locate_at, locate_reply_at, cancel_at, IsReadable};
 
 use crate::header::HEADER_SIZE;
@@ -152,7 +153,7 @@ fn behind_header<'a>(m: &Raw<'a>) -> Reader<'a>
 
 /// Passes over the reserved octets of a Request of this minor version.
 fn pass_reserved(r: &mut Reader, minor: u8) -> Result<(), CdrFault>
-    ensures { Shows (λ u. u) r.new result ((reserved minor).format.reads r.old) }
+    ensures { Shows (λ u. u) r.new result ((reserved_field minor).format.reads r.old) }
 {
     if minor == 0 {
         return Ok(());
@@ -174,7 +175,7 @@ fn pass_contexts(r: &mut Reader) -> Result<(), CdrFault>
 /// Passes over so many contexts.
 fn pass_row(r: &mut Reader, count: u32) -> Result<(), CdrFault>
     ensures { Shows (λ u. u) r.new result
-        (passed ((array_format context.format count).reads r.old)) }
+        (skip_value ((array_format context.format count).reads r.old)) }
 {
     for turn in 0..count {
         let _id = r.u32()?;

@@ -3,7 +3,7 @@
 
 ghost use Rattle.std.specs.Prelude.{◌≡◌, ◌≤◌, length, slice_index, IsTrue, ◌↔◌};
 ghost use Rattle.td_cdr.specs.Reading.{number};
-ghost use Rattle.td_giop.specs.Header.{has_magic, has_version, is_fragmented, order_told, size_told, header_at};
+ghost use Rattle.td_giop.specs.Header.{has_magic, has_version, is_fragmented, order_of_flag, size_in_header, header_at};
 
 use crate::fault::FrameFault;
 use crate::message_type::MESSAGE_ERROR;
@@ -114,7 +114,7 @@ fn is_fragmented(ring: &HeapCircularBuffer<u8>) -> bool
 
 /// The size field, which is a number in the message's order.
 fn size_of(ring: &HeapCircularBuffer<u8>, order: Order) -> u32
-    ensures { result ≡ size_told order ring.now.items }
+    ensures { result ≡ size_in_header order ring.now.items }
 {
     let cell = [
         octet(ring, SIZE_PLACE),
@@ -130,7 +130,7 @@ fn size_of(ring: &HeapCircularBuffer<u8>, order: Order) -> u32
 
 /// The order that the lowest bit of the header's order octet tells.
 pub fn order_of(octet: u8) -> Order
-    ensures { result ≡ order_told octet }
+    ensures { result ≡ order_of_flag octet }
 {
     if octet % 2 == 0 {
         Order::Big

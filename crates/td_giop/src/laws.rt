@@ -19,12 +19,12 @@ ghost use Rattle.td_giop.specs.declared.message_type.TheConstants.{MESSAGE_ERROR
 ghost use Rattle.td_giop.specs.Header.{GoodHeader, IsFault, header_at};
 ghost use Rattle.td_giop.specs.Stream.{Stream};
 ghost use Rattle.td_giop.specs.FramerLends.{IsRaw};
-ghost use Rattle.td_giop.specs.Cut.{Ending, EndsSo, Front, Fronts, Cut, HasCut, SameCut, IsMessage};
+ghost use Rattle.td_giop.specs.Cut.{StreamEnd, HasEnding, IsFirstMessage, Fronts, Cut, HasCut, SameCut, IsMessage};
 ghost use Rattle.td_giop.specs.Heads.{behind_header, request, request_at, reply, reply_at, locate_request, locate_at};
 ghost use Rattle.td_giop.specs.Heads.{locate_reply, locate_reply_at, cancel_request, cancel_at};
 ghost use Rattle.td_giop.specs.Alone.{IsReadAlone};
 ghost use Rattle.td_giop.specs.Written.{header_written, request_start, reply_start, locate_written};
-ghost use Rattle.td_giop.specs.Written.{locate_reply_written, sealed, at_body, IsSealed};
+ghost use Rattle.td_giop.specs.Written.{locate_reply_written, seal_size, at_body, IsSealed};
 
 /// A header is answered exactly where it is good, with what it tells; none exactly where fewer than 12
 /// octets are there; and a fault exactly where it is the first, in the order magic, version, flags,
@@ -43,10 +43,10 @@ pub fn header_is_judged()
 /// size; and a message stands whole in front of whatever begins with it. What a framer lends is such a
 /// message, of the order and type that its own header tells.
 pub fn front_is_message()
-    ensures front { (limit : ℕ) (s m : List ℕ) → Front limit s m → IsMessage limit m }
+    ensures front { (limit : ℕ) (s m : List ℕ) → IsFirstMessage limit s m → IsMessage limit m }
     ensures message { (limit : ℕ) (m rest : List ℕ) → IsMessage limit m
-        → Front limit (m ++ rest) m }
-    ensures raw { (s : Stream) (m : Raw) → IsRaw s m → Front s.limit s.rest m.bytes.now
+        → IsFirstMessage limit (m ++ rest) m }
+    ensures raw { (s : Stream) (m : Raw) → IsRaw s m → IsFirstMessage s.limit s.rest m.bytes.now
         × GoodHeader s.limit m.bytes.now m.minor m.order m.kind (length m.bytes.now - HEADER_SIZE) }
 {}
 
@@ -54,7 +54,7 @@ pub fn front_is_message()
 /// pair fits.
 pub fn one_cut()
     ensures one { (limit : ℕ) (s : List ℕ) (ms ns : List (List ℕ)) (rest other : List ℕ)
-        (e f : Ending)
+        (e f : StreamEnd)
         → Cut limit s ms rest e → Cut limit s ns other f → SameCut ms ns rest other e f }
     ensures some_cut { (limit : ℕ) (s : List ℕ) → HasCut limit s }
     ensures joined { (limit : ℕ) (s : List ℕ) (ms : List (List ℕ)) (rest : List ℕ)
@@ -69,9 +69,9 @@ pub fn fronts_go_on()
         → Fronts limit s ms rest → Fronts limit (s ++ p) ms (rest ++ p) }
     ensures more { (limit : ℕ) (s : List ℕ) (ms : List (List ℕ)) (rest m : List ℕ)
         → Fronts limit s ms rest
-        → Front limit rest m → Fronts limit s (ms ++ m ∷ []) (drop (length m) rest) }
-    ensures cut { (limit : ℕ) (s : List ℕ) (ms : List (List ℕ)) (rest : List ℕ) (e : Ending)
-        → Fronts limit s ms rest → EndsSo limit e rest → Cut limit s ms rest e }
+        → IsFirstMessage limit rest m → Fronts limit s (ms ++ m ∷ []) (drop (length m) rest) }
+    ensures cut { (limit : ℕ) (s : List ℕ) (ms : List (List ℕ)) (rest : List ℕ) (e : StreamEnd)
+        → Fronts limit s ms rest → HasEnding limit e rest → Cut limit s ms rest e }
 {}
 
 /// A head is read exactly where it is spelled, whatever follows, and refused exactly with the fault of
@@ -86,7 +86,7 @@ pub fn heads_are_read()
     ensures cancel { IsReadAlone cancel_request cancel_at }
 {}
 
-/// No reading of a head wants memory.
+/// No reading of a head runs out of memory.
 pub fn heads_take_no_memory()
     ensures request { (minor : ℕ) (a : At) → a.origin ≤ a.place → request_at minor a ≡ Err Memory
         → ⊥ }
@@ -101,14 +101,15 @@ pub fn written_is_read()
     ensures request { (order : Order) (minor id : ℕ) (answered : Bool) (key operation body : List ℕ)
         → id < 2 ^ 32 → length key < 2 ^ 32 → length operation + 1 < 2 ^ 32 → HasNoNul operation
         → request_at minor
-        (behind_header order (sealed order (request_start order minor id answered key operation
+        (behind_header order (seal_size order (request_start order minor id answered key operation
         ++ body))) ≡ Ok (
           record { id = id; answered = answered; key = key; operation = operation },
           at_body order (request_start order minor id answered key operation) body,
         ) }
     ensures reply { (order : Order) (minor id status : ℕ) (body : List ℕ) → id < 2 ^ 32
         → status < 2 ^ 32
-        → reply_at (behind_header order (sealed order (reply_start order minor id status ++ body)))
+        → reply_at (behind_header order (seal_size order (reply_start order minor id status
+        ++ body)))
         ≡ Ok (
           record { id = id; status = status },
           at_body order (reply_start order minor id status)
@@ -116,11 +117,11 @@ pub fn written_is_read()
         ) }
     ensures locate { (order : Order) (minor id : ℕ) (key : List ℕ) → id < 2 ^ 32
         → length key < 2 ^ 32
-        → locate_at (behind_header order (sealed order (locate_written order minor id key)))
+        → locate_at (behind_header order (seal_size order (locate_written order minor id key)))
         ≡ Ok (id, key) }
     ensures locate_reply { (order : Order) (minor id status : ℕ) → id < 2 ^ 32 → status < 2 ^ 32
         → locate_reply_at (behind_header order
-        (sealed order (locate_reply_written order minor id status)))
+        (seal_size order (locate_reply_written order minor id status)))
         ≡ Ok (id, status) }
 {}
 

@@ -5,9 +5,9 @@ ghost use Rattle.std.specs.Prelude.{◌≡◌, ◌+◌, ◌≤◌, ◌<◌, ◌^
 ghost use Rattle.td_cdr.specs.Gap.{gap};
 ghost use Rattle.td_cdr.specs.Writing.{Adds, written_octets};
 ghost use Rattle.td_giop.specs.Written.{octets_end, request_size, header_written, request_start, reply_start};
-ghost use Rattle.td_giop.specs.Heads.{reserved};
+ghost use Rattle.td_giop.specs.Heads.{reserved_field};
 ghost use Rattle.td_giop.specs.declared.header.TheConstants.{NEWEST_MINOR};
-ghost use Rattle.td_giop.specs.Written.{locate_written, locate_reply_written, sealed};
+ghost use Rattle.td_giop.specs.Written.{locate_written, locate_reply_written, seal_size};
 
 use crate::header::{HEADER_SIZE, MAGIC, MAJOR, SIZE_PLACE};
 use crate::message_type::{LOCATE_REPLY, LOCATE_REQUEST, REPLY, REQUEST};
@@ -150,7 +150,7 @@ pub fn write_plain(w: &mut Writer, kind: u8) -> Result<(), Memory>
 
 /// The reserved octets of a Request of this minor version.
 fn put_reserved(w: &mut Writer, minor: u8) -> Result<(), Memory>
-    ensures { Adds ((reserved minor).format.writes tt w.old.order (length w.old.bytes))
+    ensures { Adds ((reserved_field minor).format.writes tt w.old.order (length w.old.bytes))
         w.old w.new result }
 {
     if minor == 0 {
@@ -173,7 +173,7 @@ fn put_header(w: &mut Writer, minor: u8, kind: u8) -> Result<(), Memory>
 /// The writer's bytes begin with what a `start_` or `write_` call wrote, so with a header.
 pub fn seal(w: &mut Writer)
     requires { HEADER_SIZE ≤ length w.old.bytes }
-    ensures { w.new ≡ record w.old { bytes = sealed w.old.order w.old.bytes } }
+    ensures { w.new ≡ record w.old { bytes = seal_size w.old.order w.old.bytes } }
 {
     let size = (w.len() - HEADER_SIZE) as u32;
     w.set_u32(SIZE_PLACE as u32, size);

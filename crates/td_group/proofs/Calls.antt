@@ -20,30 +20,30 @@ use Rattle.td_changes.specs.Applying.{seek}
 use Rattle.td_changes.specs.Histories.{LegalFrom}
 use Rattle.td_changes.specs.Laws.{applied_after}
 use Rattle.td_changes.specs.declared.bounds.Bounds.{Bounds}
-use Rattle.td_cell.specs.Lists.{grown}
+use Rattle.td_cell.specs.Lists.{with_place}
 use Rattle.td_cell.proofs.Chains.{just}
 use Rattle.td_trader.specs.Admitted.{AreAdmitted}
 use Rattle.td_trader.specs.Beginning.{begin_of, after_begin as marks_after}
 use Rattle.td_trader.specs.OfferLimits.{HasLimitedOffers}
 use Rattle.td_trader.specs.PlainTraders.{PlainTrader, after_outcome, store_of}
-use Rattle.td_trader.specs.Worlds.{Begun, Changes, Looks, View, Watches, after_begin}
+use Rattle.td_trader.specs.Worlds.{BeginsQuery, ChangesTrader, LooksAtTrader, View, Watches, after_begin}
 use Rattle.td_trader.specs.Worlds.{after_own, name_at, name_in, number_between, store_seen, view_of, with_view}
 use Rattle.td_trader.specs.declared.begin.Begin.{Begin}
 use Rattle.td_group.specs.Seeing.{TurnAt}
-use Rattle.td_group.specs.declared.stall.Act.{Act}
-use Rattle.td_group.specs.declared.stall.Act.TheVariants as act
-use Rattle.td_group.specs.declared.stall.Reply.{Reply}
-use Rattle.td_group.specs.declared.stall.Reply.TheVariants as reply
+use Rattle.td_group.specs.declared.shared_trader.Act.{Act}
+use Rattle.td_group.specs.declared.shared_trader.Act.TheVariants as act
+use Rattle.td_group.specs.declared.shared_trader.Reply.{Reply}
+use Rattle.td_group.specs.declared.shared_trader.Reply.TheVariants as reply
 
 -- ---- what is one's own after an act
 
-own-same : (own : List ℕ) (n : ℕ) → grown own n n ≡ own
+own-same : (own : List ℕ) (n : ℕ) → with_place own n n ≡ own
 own-same own n = ap (λ (b : Bool). cond b (own ++ n ∷ []) own) (le-ltb n n (le_refl n))
 
 no-number : (m : Marks) → number_between m m ≡ []
 no-number m = ap (λ (b : Bool). cond b (m.count ∷ []) []) (le-ltb m.count m.count (le_refl m.count))
 
-own-more : (own : List ℕ) (h : List Accepted) (e : Accepted) → grown own (length h) (length (h ++ e ∷ [])) ≡ own ++
+own-more : (own : List ℕ) (h : List Accepted) (e : Accepted) → with_place own (length h) (length (h ++ e ∷ [])) ≡ own ++
     length h ∷ []
 own-more own h e =
     let longer : length h < length (h ++ e ∷ []) = rw length-append (omega arith) in
@@ -55,7 +55,7 @@ numbers-same numbers m = ap (λ (ns : List ℕ). numbers ++ ns) (no-number m) �
 -- what is seen of c after a turn that found b
 abbrev seen-after : View → PlainTrader → PlainTrader → View
 seen-after v b c =
-    view_of c (grown v.own (length b.history) (length c.history)) (v.own_marks ++ number_between b.marks c.marks)
+    view_of c (with_place v.own (length b.history) (length c.history)) (v.own_marks ++ number_between b.marks c.marks)
 
 stays : (v : View) (b : PlainTrader) → v ≡ view_of b v.own v.own_marks → seen-after v b b ≡ v
 stays v b is =
@@ -67,10 +67,10 @@ unmoved v b c is e = subst (λ (x : PlainTrader). seen-after v b x ≡ v) (sym e
 
 changed : (v : View) (b : PlainTrader) (c : Change) (o : Outcome) → v ≡ view_of b v.own v.own_marks →
     seen-after v b (after_outcome b c o) ≡ after_own v c o
-changed v b c (Done told) is =
-    ap₂ (λ (o n : List ℕ). view_of (after_outcome b c (Done told)) o n) (own-more v.own b.history (entry c told))
+changed v b c (Done content) is =
+    ap₂ (λ (o n : List ℕ). view_of (after_outcome b c (Done content)) o n) (own-more v.own b.history (entry c content))
     (numbers-same v.own_marks b.marks)
-    ∙ ap (λ (x : View). after_own x c (Done told)) (sym is)
+    ∙ ap (λ (x : View). after_own x c (Done content)) (sym is)
 changed v b c (User f) is = stays v b is
 changed v b c (System kind minor completion) is = stays v b is
 
@@ -92,7 +92,7 @@ module _ (w u : List View) (k : ℕ) where
   }
 
   pub changes_ok : (c : Change) (r : Result Outcome Memory) → TurnAt w k (act.Change c) (reply.Changed r) u
-      → IfOk r (λ o. Changes AreAdmitted Later w k c o u)
+      → IfOk r (λ o. ChangesTrader AreAdmitted Later w k c o u)
   changes_ok c (Ok o) t = record {
     seen = t.seen;
     meanwhile = t.meanwhile;
@@ -110,7 +110,7 @@ module _ (w u : List View) (k : ℕ) where
   changes_err c (Err e) t = watched (act.Change c) (reply.Changed (Err e)) t t.acts.changes
 
   pub looks_ok : (l : Look) (r : Result (Outcome × ℕ) Memory) → TurnAt w k (act.Look l) (reply.Looked r) u
-      → IfOk r (λ a. Looks AreAdmitted Later w k l a u)
+      → IfOk r (λ a. LooksAtTrader AreAdmitted Later w k l a u)
   looks_ok l (Ok a) t = record {
     seen = t.seen;
     meanwhile = t.meanwhile;
@@ -125,7 +125,7 @@ module _ (w u : List View) (k : ℕ) where
   looks_err l (Err e) t = watched (act.Look l) (reply.Looked (Err e)) t t.acts
 
   pub begins_ok : (q : Query) (r : Result Begin Memory) → TurnAt w k (act.Query q) (reply.Begun r) u
-      → IfOk r (λ b. Begun AreAdmitted Later w k q b u)
+      → IfOk r (λ b. BeginsQuery AreAdmitted Later w k q b u)
   begins_ok q (Ok b) t = record {
     seen = t.seen;
     meanwhile = t.meanwhile;

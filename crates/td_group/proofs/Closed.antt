@@ -5,7 +5,7 @@ use Rattle.std.proofs.lemmas.List.{drop_all, drop_more, nil_from_length, reverse
 use Rattle.std.specs.List.{All, AllZip, IsDistinct}
 use Rattle.std.specs.Str.{bytes_eq}
 use Rattle.td_cdr.specs.Marks.{In}
-use Rattle.td_cell.specs.Passes.{knowledge, opened}
+use Rattle.td_cell.specs.Passes.{knowledge, opened_book}
 use Rattle.td_cell.specs.Rules.{Before, all_met}
 use Rattle.td_cell.specs.declared.book.Book.{Ghosts}
 use Rattle.td_cell.specs.declared.cell.Cell.{Cell}
@@ -15,11 +15,11 @@ use Rattle.td_trader.specs.Following.{FollowsWritably}
 use Rattle.td_trader.specs.PlainTraders.{PlainTrader}
 use Rattle.td_trader.specs.Solos.{AreDistinct}
 use Rattle.td_trader.proofs.Growing.{writable-itself}
-use Rattle.td_group.specs.Grouping.{AreOpening, ClosesOn, IsClosed, IsFresh, IsOpeningOf, IsReady, OpensOn, OpensOne}
+use Rattle.td_group.specs.Grouping.{AreOpening, ClosesOn, IsTakenOut, IsPutIn, IsOpeningOf, IsReady, OpensOn, OpensOne}
 use Rattle.td_group.specs.Grouping.{are_met, size_of}
 use Rattle.td_group.specs.Rows.{Rows}
 use Rattle.td_group.specs.Seeing.{trader_of}
-use Rattle.td_group.specs.Soundness.{IsSound}
+use Rattle.td_group.specs.Soundness.{IsLegalTrader}
 use Rattle.td_group.proofs.RowLaws.{rows_left, rows_outer, rows_right, rows_snoc, zip_all, zip_cut, zip_length}
 use Rattle.td_group.proofs.RowLaws.{zip_map}
 use Rattle.td_group.proofs.Seen.{before_one, one_is}
@@ -54,17 +54,17 @@ module _ {A R : Type 0} {g : Ghosts PlainTrader A R} where
 
   pub opens_more : (all left : List PlainTrader) (cs : List (Cell PlainTrader A R)) (ps : List (Pass PlainTrader A R g))
       (t : PlainTrader) (c : Cell PlainTrader A R) (p : Pass PlainTrader A R g) → OpensOn all (t ∷ left) cs ps
-      → IsFresh t c p → OpensOn all left (cs ++ c ∷ []) (ps ++ p ∷ [])
+      → IsPutIn t c p → OpensOn all left (cs ++ c ∷ []) (ps ++ p ∷ [])
   opens_more all left cs ps t c p h f = λ xs ys r.
-      subst (λ (us : List (Cell PlainTrader A R)). Rows IsFresh all us ((ps ++ p ∷ []) ++ ys)) (sym (append_assoc cs
-      (c ∷ []) xs)) (subst (λ (vs : List (Pass PlainTrader A R g)). Rows IsFresh all (cs ++ c ∷ xs) vs) (sym
+      subst (λ (us : List (Cell PlainTrader A R)). Rows IsPutIn all us ((ps ++ p ∷ []) ++ ys)) (sym (append_assoc cs
+      (c ∷ []) xs)) (subst (λ (vs : List (Pass PlainTrader A R g)). Rows IsPutIn all (cs ++ c ∷ xs) vs) (sym
       (append_assoc ps (p ∷ []) ys)) (h (c ∷ xs) (p ∷ ys) (f, r)))
 
   pub opens_all : (all : List PlainTrader) (cs : List (Cell PlainTrader A R)) (ps : List (Pass PlainTrader A R g))
-      → OpensOn all [] cs ps → Rows IsFresh all cs ps
+      → OpensOn all [] cs ps → Rows IsPutIn all cs ps
   opens_all all cs ps h =
-      subst (λ (us : List (Cell PlainTrader A R)). Rows IsFresh all us ps) (append-nil cs) (subst (λ (vs : List (Pass
-      PlainTrader A R g)). Rows IsFresh all (cs ++ []) vs) (append-nil ps) (h [] [] tt))
+      subst (λ (us : List (Cell PlainTrader A R)). Rows IsPutIn all us ps) (append-nil cs) (subst (λ (vs : List (Pass
+      PlainTrader A R g)). Rows IsPutIn all (cs ++ []) vs) (append-nil ps) (h [] [] tt))
 
   -- the last of the traders that are left was put into a cell
   pub opens_on : (all xs ys : List PlainTrader) (cs cs2 : List (Cell PlainTrader A R))
@@ -80,13 +80,13 @@ module _ {A R : Type 0} {g : Ghosts PlainTrader A R} where
   -- and none is left
   pub opens_done : (ts xs left : List PlainTrader) (cs : List (Cell PlainTrader A R))
       (ps : List (Pass PlainTrader A R g)) → xs ≡ reverse ts → left ≡ [] → OpensOn (reverse xs) (reverse left) cs ps
-      → Rows IsFresh ts cs ps
+      → Rows IsPutIn ts cs ps
   opens_done ts xs left cs ps turned none h =
       let same : reverse xs ≡ ts = ap reverse turned ∙ reverse-reverse ts in
       opens_all ts cs ps (subst (λ (us : List PlainTrader). OpensOn us [] cs ps) same (subst (λ (us : List PlainTrader).
       OpensOn (reverse xs) (reverse us) cs ps) none h))
 
-  fresh-opening : (t : PlainTrader) (c : Cell PlainTrader A R) (p : Pass PlainTrader A R g) → IsFresh t c p
+  fresh-opening : (t : PlainTrader) (c : Cell PlainTrader A R) (p : Pass PlainTrader A R g) → IsPutIn t c p
       → IsOpeningOf c p
   fresh-opening t c p f =
       let is : trader_of p ≡ t = one_is (knowledge p).seen p.knows t (ap (λ (v : Knowledge PlainTrader). v.seen) f.seen)
@@ -98,25 +98,25 @@ module _ {A R : Type 0} {g : Ghosts PlainTrader A R} where
       }
 
   pub opening_all : (ts : List PlainTrader) (cs : List (Cell PlainTrader A R)) (ps : List (Pass PlainTrader A R g))
-      → Rows IsFresh ts cs ps → AreOpening cs ps
-  opening_all ts cs ps r = rows_right IsFresh IsOpeningOf fresh-opening ts cs ps r
+      → Rows IsPutIn ts cs ps → AreOpening cs ps
+  opening_all ts cs ps r = rows_right IsPutIn IsOpeningOf fresh-opening ts cs ps r
 
   module _ (ts : List PlainTrader) (cs : List (Cell PlainTrader A R)) (ps : List (Pass PlainTrader A R g))
-      (r : Rows IsFresh ts cs ps) where
-    stand-in : AllZip (λ (t : PlainTrader) (c : Cell PlainTrader A R). opened c ≡ t) ts cs
+      (r : Rows IsPutIn ts cs ps) where
+    stand-in : AllZip (λ (t : PlainTrader) (c : Cell PlainTrader A R). opened_book c ≡ t) ts cs
     stand-in =
-        rows_left IsFresh (λ (t : PlainTrader) (c : Cell PlainTrader A R). opened c ≡ t) (λ t c p f. f.opened_is) ts cs
+        rows_left IsPutIn (λ (t : PlainTrader) (c : Cell PlainTrader A R). opened_book c ≡ t) (λ t c p f. f.opened_is) ts cs
         ps r
 
-    pub cells_named : map (λ (c : Cell PlainTrader A R). (opened c).name) cs ≡ map (λ (t : PlainTrader). t.name) ts
+    pub cells_named : map (λ (c : Cell PlainTrader A R). (opened_book c).name) cs ≡ map (λ (t : PlainTrader). t.name) ts
     cells_named =
-        zip_map (λ (t : PlainTrader) (c : Cell PlainTrader A R). opened c ≡ t) (λ (t : PlainTrader). t.name) (λ (c :
-        Cell PlainTrader A R). (opened c).name) (λ t c e. ap (λ (x : PlainTrader). x.name) e) ts cs stand-in
+        zip_map (λ (t : PlainTrader) (c : Cell PlainTrader A R). opened_book c ≡ t) (λ (t : PlainTrader). t.name) (λ (c :
+        Cell PlainTrader A R). (opened_book c).name) (λ t c e. ap (λ (x : PlainTrader). x.name) e) ts cs stand-in
 
-    pub cells_sound : All IsSound ts → All (λ (c : Cell PlainTrader A R). IsSound (opened c)) cs
+    pub cells_sound : All IsLegalTrader ts → All (λ (c : Cell PlainTrader A R). IsLegalTrader (opened_book c)) cs
     cells_sound l =
-        zip_all (λ (t : PlainTrader) (c : Cell PlainTrader A R). opened c ≡ t) IsSound (λ (c : Cell PlainTrader A R).
-        IsSound (opened c)) (λ t c e k. subst IsSound (sym e) k) ts cs stand-in l
+        zip_all (λ (t : PlainTrader) (c : Cell PlainTrader A R). opened_book c ≡ t) IsLegalTrader (λ (c : Cell PlainTrader A R).
+        IsLegalTrader (opened_book c)) (λ t c e k. subst IsLegalTrader (sym e) k) ts cs stand-in l
 
   -- ---- closed
 
@@ -150,37 +150,37 @@ module _ {A R : Type 0} {g : Ghosts PlainTrader A R} where
   pub closes_first : (cs : List (Cell PlainTrader A R)) (ps : List (Pass PlainTrader A R g)) (kept : List PlainTrader)
       → kept ≡ [] → ClosesOn cs ps cs ps kept
   closes_first cs ps kept e =
-      subst (ClosesOn cs ps cs ps) (sym e) (λ ts r. subst (Rows IsClosed cs ps) (sym (append-nil ts)) r)
+      subst (ClosesOn cs ps cs ps) (sym e) (λ ts r. subst (Rows IsTakenOut cs ps) (sym (append-nil ts)) r)
 
   pub closes_more : (cs0 cs : List (Cell PlainTrader A R)) (ps0 ps : List (Pass PlainTrader A R g))
       (kept : List PlainTrader) (c : Cell PlainTrader A R) (p : Pass PlainTrader A R g) (t : PlainTrader)
-      → ClosesOn cs0 ps0 (cs ++ c ∷ []) (ps ++ p ∷ []) kept → IsClosed c p t → ClosesOn cs0 ps0 cs ps (kept ++ t ∷ [])
+      → ClosesOn cs0 ps0 (cs ++ c ∷ []) (ps ++ p ∷ []) kept → IsTakenOut c p t → ClosesOn cs0 ps0 cs ps (kept ++ t ∷ [])
   closes_more cs0 cs ps0 ps kept c p t h m = λ ts r.
       let same : (ts ++ t ∷ []) ++ reverse kept ≡ ts ++ reverse (kept ++ t ∷ []) = append_assoc ts (t ∷ []) (reverse
       kept) ∙ ap (λ (xs : List PlainTrader). ts ++ xs) (sym (reverse-append kept (t ∷ []))) in
-      subst (Rows IsClosed cs0 ps0) same (h (ts ++ t ∷ []) (rows_snoc IsClosed cs ps ts c p t r m))
+      subst (Rows IsTakenOut cs0 ps0) same (h (ts ++ t ∷ []) (rows_snoc IsTakenOut cs ps ts c p t r m))
 
   pub closes_all : (cs0 cs : List (Cell PlainTrader A R)) (ps0 ps : List (Pass PlainTrader A R g))
       (kept : List PlainTrader) → cs ≡ [] → ps ≡ [] → ClosesOn cs0 ps0 cs ps kept
-      → Rows IsClosed cs0 ps0 (reverse kept)
+      → Rows IsTakenOut cs0 ps0 (reverse kept)
   closes_all cs0 cs ps0 ps kept c p h =
-      h [] (subst (λ (us : List (Cell PlainTrader A R)). Rows IsClosed us ps []) (sym c) (subst (λ (vs : List (Pass
-      PlainTrader A R g)). Rows IsClosed [] vs []) (sym p) tt))
+      h [] (subst (λ (us : List (Cell PlainTrader A R)). Rows IsTakenOut us ps []) (sym c) (subst (λ (vs : List (Pass
+      PlainTrader A R g)). Rows IsTakenOut [] vs []) (sym p) tt))
 
   -- no cell is left
   pub closed_all : (cs0 cs : List (Cell PlainTrader A R)) (ps0 ps : List (Pass PlainTrader A R g))
       (kept out : List PlainTrader) → cs ≡ [] → out ≡ reverse kept → AllZip IsReady cs ps
-      → ClosesOn cs0 ps0 cs ps kept → Rows IsClosed cs0 ps0 out
+      → ClosesOn cs0 ps0 cs ps kept → Rows IsTakenOut cs0 ps0 out
   closed_all cs0 cs ps0 ps kept out none turned z h =
       let few : length cs ≡ 0 = ap length none in
       let same : length cs ≡ length ps = zip_length IsReady cs ps z in
-      subst (Rows IsClosed cs0 ps0) (sym turned) (closes_all cs0 cs ps0 ps kept none (nil_from_length ps (omega arith))
+      subst (Rows IsTakenOut cs0 ps0) (sym turned) (closes_all cs0 cs ps0 ps kept none (nil_from_length ps (omega arith))
       h)
 
   -- one cell and its pass are taken from the ends
   pub closes_on : (cs0 cs cs2 : List (Cell PlainTrader A R)) (ps0 ps ps2 : List (Pass PlainTrader A R g))
       (kept kept2 : List PlainTrader) (c : Cell PlainTrader A R) (p : Pass PlainTrader A R g) (t : PlainTrader)
-      → cs ≡ cs2 ++ c ∷ [] → ps ≡ ps2 ++ p ∷ [] → kept2 ≡ kept ++ t ∷ [] → ClosesOn cs0 ps0 cs ps kept → IsClosed c p t
+      → cs ≡ cs2 ++ c ∷ [] → ps ≡ ps2 ++ p ∷ [] → kept2 ≡ kept ++ t ∷ [] → ClosesOn cs0 ps0 cs ps kept → IsTakenOut c p t
       → ClosesOn cs0 ps0 cs2 ps2 kept2
   closes_on cs0 cs cs2 ps0 ps ps2 kept kept2 c p t one two three h m =
       subst (ClosesOn cs0 ps0 cs2 ps2) (sym three) (closes_more cs0 cs2 ps0 ps2 kept c p t (subst (λ (vs : List (Pass
@@ -195,8 +195,8 @@ module _ {A R : Type 0} {g : Ghosts PlainTrader A R} where
       (subst (λ (us : List (Cell PlainTrader A R)). AllZip IsReady us ps) one z))
 
   pub taken_out : (c : Cell PlainTrader A R) (p : Pass PlainTrader A R g) (t : PlainTrader) → all_met (knowledge
-      p).met ≡ true → Before FollowsWritably (knowledge p).seen t → FollowsWritably (opened c) t → ((k : ℕ) → size_of (opened c) ≤ k
-      → k < size_of t → In k (knowledge p).own) → IsClosed c p t
+      p).met ≡ true → Before FollowsWritably (knowledge p).seen t → FollowsWritably (opened_book c) t → ((k : ℕ) → size_of (opened_book c) ≤ k
+      → k < size_of t → In k (knowledge p).own) → IsTakenOut c p t
   taken_out c p t met seen since places = record {
     met = met;
     since = since;
@@ -205,13 +205,13 @@ module _ {A R : Type 0} {g : Ghosts PlainTrader A R} where
   }
 
   pub distinct_still : (cs : List (Cell PlainTrader A R)) (ps : List (Pass PlainTrader A R g)) (ts : List PlainTrader)
-      (names : List (List ℕ)) → Rows IsClosed cs ps ts
-      → map (λ (c : Cell PlainTrader A R). (opened c).name) cs ≡ names → IsDistinct bytes_eq names → AreDistinct ts
+      (names : List (List ℕ)) → Rows IsTakenOut cs ps ts
+      → map (λ (c : Cell PlainTrader A R). (opened_book c).name) cs ≡ names → IsDistinct bytes_eq names → AreDistinct ts
   distinct_still cs ps ts names r named d =
-      let closed : AllZip (λ (c : Cell PlainTrader A R) (t : PlainTrader). t.name ≡ (opened c).name) cs ts = rows_outer
-      IsClosed (λ (c : Cell PlainTrader A R) (t : PlainTrader). t.name ≡ (opened c).name) (λ c p t h. h.since.follows.name) cs
+      let closed : AllZip (λ (c : Cell PlainTrader A R) (t : PlainTrader). t.name ≡ (opened_book c).name) cs ts = rows_outer
+      IsTakenOut (λ (c : Cell PlainTrader A R) (t : PlainTrader). t.name ≡ (opened_book c).name) (λ c p t h. h.since.follows.name) cs
       ps ts r in
-      let same : map (λ (t : PlainTrader). t.name) ts ≡ map (λ (c : Cell PlainTrader A R). (opened c).name) cs = zip_map
-      (λ (c : Cell PlainTrader A R) (t : PlainTrader). t.name ≡ (opened c).name) (λ (c : Cell PlainTrader A R). (opened
+      let same : map (λ (t : PlainTrader). t.name) ts ≡ map (λ (c : Cell PlainTrader A R). (opened_book c).name) cs = zip_map
+      (λ (c : Cell PlainTrader A R) (t : PlainTrader). t.name ≡ (opened_book c).name) (λ (c : Cell PlainTrader A R). (opened_book
       c).name) (λ (t : PlainTrader). t.name) (λ c t e. e) cs ts closed in
       subst (IsDistinct bytes_eq) (sym (same ∙ named)) d

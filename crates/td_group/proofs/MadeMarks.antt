@@ -6,9 +6,9 @@ use Rattle.std.proofs.lemmas.Bool.{cases_lt}
 use Rattle.std.proofs.lemmas.Option.{slice_get_read}
 use Rattle.td_cdr.specs.Marks.{In, Marks, last_identifier}
 use Rattle.td_cell.specs.Lists.{Rises}
-use Rattle.td_cell.specs.OwnMarks.{Spaced, mark_between, marks_between, number_of}
+use Rattle.td_cell.specs.OwnMarks.{AreSpaced, mark_between, marks_between, number_of}
 use Rattle.td_cell.specs.Passes.{knowledge}
-use Rattle.td_cell.specs.Rules.{Turned}
+use Rattle.td_cell.specs.Rules.{ActsOnce}
 use Rattle.td_cell.specs.declared.book.Book.{Ghosts}
 use Rattle.td_cell.specs.declared.pass.Mark.{Mark}
 use Rattle.td_cell.specs.declared.pass.Pass.{Pass}
@@ -16,10 +16,10 @@ use Rattle.td_cell.specs.declared.pass.View.{View as Knowledge}
 use Rattle.td_cell.proofs.Chains.{just}
 use Rattle.td_trader.specs.Following.{FollowsWritably}
 use Rattle.td_trader.specs.PlainTraders.{PlainTrader}
-use Rattle.td_group.specs.Acting.{Acts}
+use Rattle.td_group.specs.Acting.{TraderActs}
 use Rattle.td_group.specs.Made.{IsMadeAt}
-use Rattle.td_group.specs.declared.stall.Act.{Act}
-use Rattle.td_group.specs.declared.stall.Reply.{Reply}
+use Rattle.td_group.specs.declared.shared_trader.Act.{Act}
+use Rattle.td_group.specs.declared.shared_trader.Reply.{Reply}
 use Rattle.td_group.specs.MadeLaws.{act_makes}
 use Rattle.td_group.specs.Grouping.{marks_of, size_of}
 use Rattle.td_group.specs.MadeMarks.{AreMadeApart, MarksAt}
@@ -46,7 +46,7 @@ rises-one number (x ∷ xs) a b r (inr h) (inl q) e =
     absurd (omega arith)
 rises-one number (x ∷ xs) a b r (inr h) (inr l) e = rises-one number xs a b r.1 h l e
 
-made-apart : (ring : ℕ) (ms : List Mark) → Rises number_of ms → Spaced ring ms → AreMadeApart ms
+made-apart : (ring : ℕ) (ms : List Mark) → Rises number_of ms → AreSpaced ring ms → AreMadeApart ms
 made-apart ring ms r s a b k l p q one two same = elim (cases_lt a.number b.number) as (λ _. a ≡ b) [
   | inl less ↦ absurd ((s a b p q less).identifiers k l one two same)
   | inr most ↦ elim (cases_lt b.number a.number) as (λ _. a ≡ b) [
@@ -76,7 +76,7 @@ more-made b c P f m value h made = from (nat_lt b.count c.count) h
 
 module _ {A R : Type 0} {g : Ghosts PlainTrader A R} (ps : List (Pass PlainTrader A R g)) (k : ℕ)
     (p q : Pass PlainTrader A R g) (is : p ≡ slice_index_or ps k p) (a : Act) (r : Reply)
-    (t : Turned FollowsWritably size_of marks_of Acts (knowledge p) a r (knowledge q)) where
+    (t : ActsOnce FollowsWritably size_of marks_of TraderActs (knowledge p) a r (knowledge q)) where
   left : trader_of q ≡ t.after
   left = one_is (knowledge q).seen q.knows t.after (ap (λ (v : Knowledge PlainTrader). v.seen) t.is)
 

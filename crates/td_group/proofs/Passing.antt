@@ -6,7 +6,7 @@ use Rattle.std.proofs.lemmas.List.{length-set, set_at}
 use Rattle.std.specs.List.{All, AllZip}
 use Rattle.td_cell.specs.Lists.{itself, merge}
 use Rattle.td_cell.specs.OwnMarks.{number_of}
-use Rattle.td_cell.specs.Passes.{Belongs, SameCell, knowledge, opened}
+use Rattle.td_cell.specs.Passes.{Belongs, SameCell, knowledge, opened_book}
 use Rattle.td_cell.specs.Rules.{all_met}
 use Rattle.td_cell.specs.declared.book.Book.{Ghosts}
 use Rattle.td_cell.specs.declared.cell.Cell.{Cell}
@@ -16,11 +16,11 @@ use Rattle.td_cell.specs.declared.pass.View.{View as Knowledge}
 use Rattle.td_trader.specs.Following.{FollowsWritably}
 use Rattle.td_trader.specs.PlainTraders.{PlainTrader}
 use Rattle.td_trader.proofs.Growing.{writable-on}
-use Rattle.td_group.specs.Grouping.{AreOpening, IsAsBefore, IsMetAgain, IsOpeningOf, IsOut, IsUnchanged, Meets}
+use Rattle.td_group.specs.Grouping.{AreOpening, IsAsBefore, IsMetAgain, IsOpeningOf, IsOut, IsUnchanged, MeetsPass}
 use Rattle.td_group.specs.Grouping.{OutStays, SamePasses, SplitsInPart, SplitsOff}
-use Rattle.td_group.specs.Rows.{Beside, Front, LeadsOn, Rows}
+use Rattle.td_group.specs.Rows.{Beside, DropsFront, LeadsOn, Rows}
 use Rattle.td_group.specs.Seeing.{trader_of}
-use Rattle.td_group.specs.Soundness.{IsSound}
+use Rattle.td_group.specs.Soundness.{IsLegalTrader}
 use Rattle.td_group.proofs.RowLaws.{beside_fits, beside_last, beside_less, front_less, front_more, front_none}
 use Rattle.td_group.proofs.RowLaws.{rows_left, rows_outer, rows_turned}
 use Rattle.td_group.proofs.RowLaws.{zip_all, zip_at, zip_itself, zip_length, zip_map, zip_over, zip_set, zip_through}
@@ -62,7 +62,7 @@ module _ {A R : Type 0} {g : Ghosts PlainTrader A R} where
   still-opening c p q o cell number seen = record {
     belongs = cell ∙ o.belongs;
     opening = number ∙ o.opening;
-    seen = subst (FollowsWritably (opened c)) (sym (same_trader p q seen)) o.seen;
+    seen = subst (FollowsWritably (opened_book c)) (sym (same_trader p q seen)) o.seen;
   }
 
   opening_split : (c : Cell PlainTrader A R) (p t q : Pass PlainTrader A R g) → IsOpeningOf c p → SplitsOff p t q
@@ -77,7 +77,7 @@ module _ {A R : Type 0} {g : Ghosts PlainTrader A R} where
       still-opening c p q o s.same_cell (ap (λ (v : Knowledge PlainTrader). v.number) s.knows) (ap (λ (v : Knowledge
       PlainTrader). v.seen) s.knows)
 
-  opening_met : (c : Cell PlainTrader A R) (p t q : Pass PlainTrader A R g) → IsOpeningOf c p → Meets p t q
+  opening_met : (c : Cell PlainTrader A R) (p t q : Pass PlainTrader A R g) → IsOpeningOf c p → MeetsPass p t q
       → IsOpeningOf c q
   opening_met c p t q o m =
       let l = m.learned in
@@ -87,7 +87,7 @@ module _ {A R : Type 0} {g : Ghosts PlainTrader A R} where
       record {
         belongs = m.same_cell ∙ o.belongs;
         opening = m.opening;
-        seen = subst (FollowsWritably (opened c)) (sym is) (writable-on (opened c) (trader_of p) l.book o.seen to_book);
+        seen = subst (FollowsWritably (opened_book c)) (sym is) (writable-on (opened_book c) (trader_of p) l.book o.seen to_book);
       }
 
   is_out : (p t q : Pass PlainTrader A R g) → SplitsOff p t q → IsOut q t
@@ -111,7 +111,7 @@ module _ {A R : Type 0} {g : Ghosts PlainTrader A R} where
         split = record { number = o.split.number; known = omega arith };
       }
 
-  met_again : (p t q r : Pass PlainTrader A R g) → SplitsOff p t q → Meets q t r → IsMetAgain p r
+  met_again : (p t q r : Pass PlainTrader A R g) → SplitsOff p t q → MeetsPass q t r → IsMetAgain p r
   met_again p t q r s m =
       let l = m.learned in
       let seen_q : (knowledge q).seen ≡ (knowledge p).seen = ap (λ (v : Knowledge PlainTrader). v.seen) s.opening in
@@ -155,7 +155,7 @@ module _ {A R : Type 0} {g : Ghosts PlainTrader A R} where
       v.met) s.opening ∙ length-append (knowledge p).met (false ∷ []) in
       (s.same_cell, (let most : length (knowledge p).met ≤ length (knowledge q).met = omega arith in most))
 
-  keeps-met : (p t q : Pass PlainTrader A R g) → Meets p t q → Keeps p q
+  keeps-met : (p t q : Pass PlainTrader A R g) → MeetsPass p t q → Keeps p q
   keeps-met p t q m =
       let same : length (knowledge q).met ≡ length (knowledge p).met = ap length m.met ∙ length-set (knowledge p).met
       ((knowledge t).number - 1) true in
@@ -177,8 +177,8 @@ module _ {A R : Type 0} {g : Ghosts PlainTrader A R} where
   split_keeps_out ps ts qs r = λ us z. zip_over IsOut Keeps out-over ps qs us (rows_outer SplitsOff Keeps keeps-split ps
       ts qs r) z
 
-  pub meet_keeps_out : (ps ts qs : List (Pass PlainTrader A R g)) → Rows Meets ps ts qs → OutStays ps qs
-  meet_keeps_out ps ts qs r = λ us z. zip_over IsOut Keeps out-over ps qs us (rows_outer Meets Keeps keeps-met ps ts qs
+  pub meet_keeps_out : (ps ts qs : List (Pass PlainTrader A R g)) → Rows MeetsPass ps ts qs → OutStays ps qs
+  meet_keeps_out ps ts qs r = λ us z. zip_over IsOut Keeps out-over ps qs us (rows_outer MeetsPass Keeps keeps-met ps ts qs
       r) z
 
   pub before_keeps_out : (ps qs : List (Pass PlainTrader A R g)) → AllZip IsAsBefore ps qs → OutStays ps qs
@@ -217,9 +217,9 @@ module _ {A R : Type 0} {g : Ghosts PlainTrader A R} where
   as_before ps = zip_itself IsAsBefore unchanged ps
 
   pub split_on : (cs : List (Cell PlainTrader A R)) (ps0 ps ts : List (Pass PlainTrader A R g)) (k : ℕ)
-      (c : Cell PlainTrader A R) (p t q : Pass PlainTrader A R g) → AreOpening cs ps → Front SplitsOff ts ps0 ps
+      (c : Cell PlainTrader A R) (p t q : Pass PlainTrader A R g) → AreOpening cs ps → DropsFront SplitsOff ts ps0 ps
       → length ts ≡ k → k < length cs → c ≡ slice_index_or cs k c → p ≡ slice_index_or ps k p → SplitsOff p t q
-      → Front SplitsOff (ts ++ t ∷ []) ps0 (slice_set ps k q) × AreOpening cs (slice_set ps k q)
+      → DropsFront SplitsOff (ts ++ t ∷ []) ps0 (slice_set ps k q) × AreOpening cs (slice_set ps k q)
   split_on cs ps0 ps ts k c p t q z f e inside one two s =
       let n : length cs ≡ length ps = zip_length IsOpeningOf cs ps z in (
         front_more SplitsOff ts ps0 ps k t p q e (omega arith) two s f,
@@ -228,7 +228,7 @@ module _ {A R : Type 0} {g : Ghosts PlainTrader A R} where
       )
 
   pub split_stops : (cs : List (Cell PlainTrader A R)) (ps0 ps ts : List (Pass PlainTrader A R g)) (k : ℕ)
-      (c : Cell PlainTrader A R) (p q : Pass PlainTrader A R g) → AreOpening cs ps → Front SplitsOff ts ps0 ps
+      (c : Cell PlainTrader A R) (p q : Pass PlainTrader A R g) → AreOpening cs ps → DropsFront SplitsOff ts ps0 ps
       → length ts ≡ k → k < length cs → c ≡ slice_index_or cs k c → p ≡ slice_index_or ps k p → IsUnchanged p q
       → SplitsInPart ps0 ts (slice_set ps k q) × AreOpening cs (slice_set ps k q)
   split_stops cs ps0 ps ts k c p q z f e inside one two s =
@@ -249,17 +249,17 @@ module _ {A R : Type 0} {g : Ghosts PlainTrader A R} where
 
   pub meet_on : (cs : List (Cell PlainTrader A R)) (ps0 ps ts0 ts : List (Pass PlainTrader A R g)) (k : ℕ)
       (c : Cell PlainTrader A R) (p t q : Pass PlainTrader A R g) → AreOpening cs ps → Beside IsOut (ts ++ t ∷ []) ps
-      → LeadsOn Meets ts0 ps0 (ts ++ t ∷ []) ps → length ts ≡ k → k < length cs → c ≡ slice_index_or cs k c
-      → p ≡ slice_index_or ps k p → Meets p t q
+      → LeadsOn MeetsPass ts0 ps0 (ts ++ t ∷ []) ps → length ts ≡ k → k < length cs → c ≡ slice_index_or cs k c
+      → p ≡ slice_index_or ps k p → MeetsPass p t q
       → AreOpening cs (slice_set ps k q) × Beside IsOut ts (slice_set ps k q)
-      × LeadsOn Meets ts0 ps0 ts (slice_set ps k q)
+      × LeadsOn MeetsPass ts0 ps0 ts (slice_set ps k q)
   meet_on cs ps0 ps ts0 ts k c p t q z b leads e inside one two m =
       let n : length cs ≡ length ps = zip_length IsOpeningOf cs ps z in
       let short : k < length ps = omega arith in (
         zip_set IsOpeningOf cs ps k c q z inside one (opening_met c p t q (zip_at IsOpeningOf cs ps k c p z inside one
             two) m),
         beside_less IsOut ts ps k t q e b,
-        λ ws f. leads ws (front_less Meets ts ps ws k t p q e short two m f),
+        λ ws f. leads ws (front_less MeetsPass ts ps ws k t p q e short two m f),
       )
 
   -- the last of what is out is taken from the end of the list
@@ -268,8 +268,8 @@ module _ {A R : Type 0} {g : Ghosts PlainTrader A R} where
     out-still : Beside IsOut (ts ++ t ∷ []) ps
     out-still = subst (λ (xs : List (Pass PlainTrader A R g)). Beside IsOut xs ps) is b
 
-    pub told_inside : length ts < length cs
-    told_inside =
+    pub content_inside : length ts < length cs
+    content_inside =
         let n : length cs ≡ length ps = zip_length IsOpeningOf cs ps z in
         let fits : length (ts ++ t ∷ []) ≤ length ps = beside_fits IsOut (ts ++ t ∷ []) ps out-still in
         let longer : length (ts ++ t ∷ []) ≡ length ts + 1 = length-append ts (t ∷ []) in
@@ -278,30 +278,30 @@ module _ {A R : Type 0} {g : Ghosts PlainTrader A R} where
     module _ (k : ℕ) (c : Cell PlainTrader A R) (p : Pass PlainTrader A R g) (e : length ts ≡ k)
         (one : c ≡ slice_index_or cs k c) (two : p ≡ slice_index_or ps k p) where
       at-inside : k < length cs
-      at-inside = let short = told_inside in omega arith
+      at-inside = let short = content_inside in omega arith
 
-      pub told_ready : IsOpeningOf c p × IsOut p t
-      told_ready = (
+      pub content_ready : IsOpeningOf c p × IsOut p t
+      content_ready = (
         zip_at IsOpeningOf cs ps k c p z at-inside one two,
         beside_last IsOut ts ps k t p e two out-still,
       )
 
-      pub told_met : (ps0 ts0 : List (Pass PlainTrader A R g)) (q : Pass PlainTrader A R g)
-          → LeadsOn Meets ts0 ps0 us ps → Meets p t q
+      pub content_met : (ps0 ts0 : List (Pass PlainTrader A R g)) (q : Pass PlainTrader A R g)
+          → LeadsOn MeetsPass ts0 ps0 us ps → MeetsPass p t q
           → AreOpening cs (slice_set ps k q) × Beside IsOut ts (slice_set ps k q)
-          × LeadsOn Meets ts0 ps0 ts (slice_set ps k q)
-      told_met ps0 ts0 q leads m =
-          meet_on cs ps0 ps ts0 ts k c p t q z out-still (subst (λ (xs : List (Pass PlainTrader A R g)). LeadsOn Meets
+          × LeadsOn MeetsPass ts0 ps0 ts (slice_set ps k q)
+      content_met ps0 ts0 q leads m =
+          meet_on cs ps0 ps ts0 ts k c p t q z out-still (subst (λ (xs : List (Pass PlainTrader A R g)). LeadsOn MeetsPass
           ts0 ps0 xs ps) is leads) e at-inside one two m
 
   -- and none is left
-  pub meets_all : (ts0 ps0 ts ps : List (Pass PlainTrader A R g)) → ts ≡ [] → LeadsOn Meets ts0 ps0 ts ps
-      → Front Meets ts0 ps0 ps
-  meets_all ts0 ps0 ts ps e leads = leads ps (front_none Meets ts ps e)
+  pub meets_all : (ts0 ps0 ts ps : List (Pass PlainTrader A R g)) → ts ≡ [] → LeadsOn MeetsPass ts0 ps0 ts ps
+      → DropsFront MeetsPass ts0 ps0 ps
+  meets_all ts0 ps0 ts ps e leads = leads ps (front_none MeetsPass ts ps e)
 
   -- what was split off in part is out
   out-part : (ts ps qs : List (Pass PlainTrader A R g)) (n : ℕ) (next : Pass PlainTrader A R g) → length ts ≡ n
-      → Front SplitsOff ts ps qs → Beside IsOut ts (slice_set qs n next)
+      → DropsFront SplitsOff ts ps qs → Beside IsOut ts (slice_set qs n next)
   out-part [] ps qs n next e f = tt
   out-part (t ∷ ts) [] qs n next e f = absurd f
   out-part (t ∷ ts) (p ∷ ps) [] n next e f = absurd f
@@ -317,7 +317,7 @@ module _ {A R : Type 0} {g : Ghosts PlainTrader A R} where
 
   way-back : (ts ps qs rs : List (Pass PlainTrader A R g)) (n : ℕ) (here next : Pass PlainTrader A R g)
       → length ts ≡ n → n < length qs → here ≡ slice_index_or qs n here → IsUnchanged here next
-      → Front SplitsOff ts ps qs → Front Meets ts (slice_set qs n next) rs → AllZip IsAsBefore ps rs
+      → DropsFront SplitsOff ts ps qs → DropsFront MeetsPass ts (slice_set qs n next) rs → AllZip IsAsBefore ps rs
   way-back [] ps [] rs n here next e inside at same f h = absurd (omega arith)
   way-back [] ps (x ∷ qs) rs zero here next e inside at same f h =
       let first : IsAsBefore x next = inl (subst (λ (y : Pass PlainTrader A R g). IsUnchanged y next) at same) in
@@ -334,23 +334,23 @@ module _ {A R : Type 0} {g : Ghosts PlainTrader A R} where
     way-back ts ps qs rs n here next (omega arith) (omega arith) at same f.1 h.1,
   )
 
-  pub met_in_part : (ps ts qs rs : List (Pass PlainTrader A R g)) → SplitsInPart ps ts qs → Front Meets ts qs rs
+  pub met_in_part : (ps ts qs rs : List (Pass PlainTrader A R g)) → SplitsInPart ps ts qs → DropsFront MeetsPass ts qs rs
       → AllZip IsAsBefore ps rs
   met_in_part ps ts qs rs s f =
       way-back ts ps s.between rs (length ts) s.here s.next refl s.within s.at s.same s.split (subst (λ (xs : List (Pass
-      PlainTrader A R g)). Front Meets ts xs rs) s.after_is f)
+      PlainTrader A R g)). DropsFront MeetsPass ts xs rs) s.after_is f)
 
   -- ---- a session's passes
 
   -- the pass is of the cell, and has seen what the cell's trader has become
   abbrev IsOf : Cell PlainTrader A R → Pass PlainTrader A R g → Type 0
-  IsOf c t = Belongs t c × FollowsWritably (opened c) (trader_of t)
+  IsOf c t = Belongs t c × FollowsWritably (opened_book c) (trader_of t)
 
   abbrev SeesAlike : (p t : Pass PlainTrader A R g) → Type 0
   SeesAlike p t = SameCell t p × ((knowledge t).seen ≡ (knowledge p).seen)
 
   is-of : (c : Cell PlainTrader A R) (p t : Pass PlainTrader A R g) → IsOpeningOf c p → SeesAlike p t → IsOf c t
-  is-of c p t o s = (s.0 ∙ o.belongs, subst (FollowsWritably (opened c)) (sym (same_trader p t s.1)) o.seen)
+  is-of c p t o s = (s.0 ∙ o.belongs, subst (FollowsWritably (opened_book c)) (sym (same_trader p t s.1)) o.seen)
 
   split-of : (p t q : Pass PlainTrader A R g) → SplitsOff p t q → SeesAlike p t
   split-of p t q s = (s.of_cell, ap (λ (v : Knowledge PlainTrader). v.seen) s.out)
@@ -368,13 +368,13 @@ module _ {A R : Type 0} {g : Ghosts PlainTrader A R} where
         t.seat.table_id) (λ c t h. h.0) cs ts passes-of
 
     pub of_names : map (λ (t : Pass PlainTrader A R g). (trader_of t).name) ts ≡ map (λ (c : Cell PlainTrader A R).
-        (opened c).name) cs
+        (opened_book c).name) cs
     of_names =
-        zip_map IsOf (λ (c : Cell PlainTrader A R). (opened c).name) (λ (t : Pass PlainTrader A R g). (trader_of
+        zip_map IsOf (λ (c : Cell PlainTrader A R). (opened_book c).name) (λ (t : Pass PlainTrader A R g). (trader_of
         t).name) (λ c t h. h.1.follows.name) cs ts passes-of
 
-    pub of_sound : All (λ (c : Cell PlainTrader A R). IsSound (opened c)) cs
-        → All (λ (t : Pass PlainTrader A R g). IsSound (trader_of t)) ts
+    pub of_sound : All (λ (c : Cell PlainTrader A R). IsLegalTrader (opened_book c)) cs
+        → All (λ (t : Pass PlainTrader A R g). IsLegalTrader (trader_of t)) ts
     of_sound l =
-        zip_all IsOf (λ (c : Cell PlainTrader A R). IsSound (opened c)) (λ (t : Pass PlainTrader A R g). IsSound
-        (trader_of t)) (λ c t h k. sound_on (opened c) (trader_of t) h.1.follows k) cs ts passes-of l
+        zip_all IsOf (λ (c : Cell PlainTrader A R). IsLegalTrader (opened_book c)) (λ (t : Pass PlainTrader A R g). IsLegalTrader
+        (trader_of t)) (λ c t h k. sound_on (opened_book c) (trader_of t) h.1.follows k) cs ts passes-of l

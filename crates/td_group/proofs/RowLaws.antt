@@ -7,7 +7,7 @@ use Rattle.std.proofs.lemmas.Option.{slice_get_read, slice_get-map}
 use Rattle.std.proofs.Math.Seq.{map-set_same}
 use Rattle.std.specs.List.{All, AllZip}
 use Rattle.td_cell.proofs.Chains.{just}
-use Rattle.td_group.specs.Rows.{Beside, Front, Rows}
+use Rattle.td_group.specs.Rows.{Beside, DropsFront, Rows}
 
 -- ---- one list
 
@@ -136,19 +136,19 @@ module _ {A B : Type 0} (S : A → B → Type 0) where
 
 module _ {A B : Type 0} (R : A → B → A → Type 0) where
   -- none of them
-  pub front_none : (ts : List B) (ps : List A) → ts ≡ [] → Front R ts ps ps
-  front_none ts ps e = subst (λ (us : List B). Front R us ps ps) (sym e) refl
+  pub front_none : (ts : List B) (ps : List A) → ts ≡ [] → DropsFront R ts ps ps
+  front_none ts ps e = subst (λ (us : List B). DropsFront R us ps ps) (sym e) refl
 
-  front-first : (ps ws : List A) (x p q : A) (t : B) → p ≡ x → R p t q → ws ≡ q ∷ ps → Front R (t ∷ []) (x ∷ ps) ws
+  front-first : (ps ws : List A) (x p q : A) (t : B) → p ≡ x → R p t q → ws ≡ q ∷ ps → DropsFront R (t ∷ []) (x ∷ ps) ws
   front-first ps ws x p q t is r e =
-      subst (λ (ys : List A). Front R (t ∷ []) (x ∷ ps) ys) (sym e) (subst (λ (y : A). R y t q) is r, refl)
+      subst (λ (ys : List A). DropsFront R (t ∷ []) (x ∷ ps) ys) (sym e) (subst (λ (y : A). R y t q) is r, refl)
 
   -- the next one became q
   pub front_more : (ts : List B) (ps qs : List A) (n : ℕ) (t : B) (p q : A) → length ts ≡ n → n < length qs
-      → p ≡ slice_index_or qs n p → R p t q → Front R ts ps qs → Front R (ts ++ t ∷ []) ps (slice_set qs n q)
+      → p ≡ slice_index_or qs n p → R p t q → DropsFront R ts ps qs → DropsFront R (ts ++ t ∷ []) ps (slice_set qs n q)
   front_more [] ps [] n t p q e inside is r f = absurd (omega arith)
   front_more [] ps (x ∷ qs) zero t p q e inside is r f =
-      subst (λ (ys : List A). Front R (t ∷ []) ys (q ∷ qs)) f (front-first qs (q ∷ qs) x p q t is r refl)
+      subst (λ (ys : List A). DropsFront R (t ∷ []) ys (q ∷ qs)) f (front-first qs (q ∷ qs) x p q t is r refl)
   front_more [] ps (x ∷ qs) (suc n) t p q e inside is r f = absurd (omega arith)
   front_more (s ∷ ts) [] qs n t p q e inside is r f = absurd f
   front_more (s ∷ ts) (y ∷ ps) [] n t p q e inside is r f = absurd f
@@ -160,7 +160,7 @@ module _ {A B : Type 0} (R : A → B → A → Type 0) where
 
   -- the last of them became q first
   pub front_less : (ts : List B) (ps ws : List A) (n : ℕ) (t : B) (p q : A) → length ts ≡ n → n < length ps
-      → p ≡ slice_index_or ps n p → R p t q → Front R ts (slice_set ps n q) ws → Front R (ts ++ t ∷ []) ps ws
+      → p ≡ slice_index_or ps n p → R p t q → DropsFront R ts (slice_set ps n q) ws → DropsFront R (ts ++ t ∷ []) ps ws
   front_less [] [] ws n t p q e inside is r f = absurd (omega arith)
   front_less [] (x ∷ ps) ws zero t p q e inside is r f = front-first ps ws x p q t is r f
   front_less [] (x ∷ ps) ws (suc n) t p q e inside is r f = absurd (omega arith)
@@ -173,7 +173,7 @@ module _ {A B : Type 0} (R : A → B → A → Type 0) where
   )
 
   -- all of them
-  pub front_rows : (ts : List B) (ps qs : List A) → length ts ≡ length ps → Front R ts ps qs → Rows R ps ts qs
+  pub front_rows : (ts : List B) (ps qs : List A) → length ts ≡ length ps → DropsFront R ts ps qs → Rows R ps ts qs
   front_rows [] [] [] e f = tt
   front_rows [] [] (q ∷ qs) e f = absurd (let bad : ⊥ = cc in bad)
   front_rows [] (p ∷ ps) qs e f = absurd (omega arith)
@@ -181,7 +181,7 @@ module _ {A B : Type 0} (R : A → B → A → Type 0) where
   front_rows (t ∷ ts) (p ∷ ps) [] e f = absurd f
   front_rows (t ∷ ts) (p ∷ ps) (q ∷ qs) e f = (f.0, front_rows ts ps qs (omega arith) f.1)
 
-  pub front_length : (ts : List B) (ps qs : List A) → Front R ts ps qs → length qs ≡ length ps
+  pub front_length : (ts : List B) (ps qs : List A) → DropsFront R ts ps qs → length qs ≡ length ps
   front_length [] ps qs f = ap length f
   front_length (t ∷ ts) [] qs f = absurd f
   front_length (t ∷ ts) (p ∷ ps) [] f = absurd f

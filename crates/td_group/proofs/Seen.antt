@@ -8,22 +8,22 @@ use Rattle.td_register.specs.Stores.{Store}
 use Rattle.td_register.specs.declared.history.Accepted.{Accepted}
 use Rattle.td_changes.specs.Histories.{Legal, LegalFrom}
 use Rattle.td_changes.specs.declared.bounds.Bounds.{Bounds}
-use Rattle.td_cell.specs.Lists.{grown}
+use Rattle.td_cell.specs.Lists.{with_place}
 use Rattle.td_cell.specs.OwnMarks.{mark_between, marks_between, number_of}
-use Rattle.td_cell.specs.Rules.{Before, Turned, after_turn}
+use Rattle.td_cell.specs.Rules.{Before, ActsOnce, after_turn}
 use Rattle.td_cell.specs.declared.pass.View.{View as Knowledge}
 use Rattle.td_cell.proofs.Chains.{just}
 use Rattle.td_trader.specs.Following.{Follows, FollowsWritably}
 use Rattle.td_trader.specs.PlainTraders.{HasShortReplies, PlainTrader, store_of}
 use Rattle.td_trader.specs.Worlds.{View, after_others, number_between, view_of}
 use Rattle.td_trader.proofs.Growing.{legal-append, writable-on}
-use Rattle.td_group.specs.Acting.{Acts}
+use Rattle.td_group.specs.Acting.{TraderActs}
 use Rattle.td_group.specs.BookLaws.{acts_follow}
 use Rattle.td_group.specs.Grouping.{marks_of, size_of}
 use Rattle.td_group.specs.Seeing.{TurnAt, the_one, view_by}
-use Rattle.td_group.specs.Soundness.{IsSound}
-use Rattle.td_group.specs.declared.stall.Act.{Act}
-use Rattle.td_group.specs.declared.stall.Reply.{Reply}
+use Rattle.td_group.specs.Soundness.{IsLegalTrader}
+use Rattle.td_group.specs.declared.shared_trader.Act.{Act}
+use Rattle.td_group.specs.declared.shared_trader.Reply.{Reply}
 use Rattle.td_group.proofs.RowLaws.{got}
 
 -- ---- what is in an option
@@ -55,7 +55,7 @@ legal-on t u f l =
     here in
     subst (λ (b : Bounds). Legal b u.opening u.history) (sym f.bounds) from
 
-pub sound_on : (t u : PlainTrader) → Follows t u → IsSound t → IsSound u
+pub sound_on : (t u : PlainTrader) → Follows t u → IsLegalTrader t → IsLegalTrader u
 sound_on t u f s = (legal-on t u f s.0, subst HasShortReplies (sym f.opening) s.1)
 
 -- ---- a turn
@@ -95,7 +95,7 @@ view-is w x h t e s =
     ∙ ap (λ (y : Knowledge PlainTrader). view_of t y.own (map number_of y.own_marks)) e
 
 module _ (v w : Knowledge PlainTrader) (hv : IsSome v.seen) (hw : IsSome w.seen) (a : Act) (r : Reply)
-    (t : Turned FollowsWritably size_of marks_of Acts v a r w) where
+    (t : ActsOnce FollowsWritably size_of marks_of TraderActs v a r w) where
   since : FollowsWritably (the_one v.seen hv) t.before
   since = before_one v.seen hv t.before t.later_than_seen.0
 
@@ -112,11 +112,11 @@ module _ (v w : Knowledge PlainTrader) (hv : IsSome v.seen) (hw : IsSome w.seen)
   abbrev numbers : List ℕ
   numbers = map number_of v.own_marks
 
-  world-then : view_by w hw ≡ view_of t.after (grown v.own (size_of t.before) (size_of t.after)) (numbers ++
+  world-then : view_by w hw ≡ view_of t.after (with_place v.own (size_of t.before) (size_of t.after)) (numbers ++
       number_between t.before.marks t.after.marks)
   world-then =
       view-is w (after_turn size_of marks_of v t.before t.after) hw t.after t.is refl
-      ∙ ap (λ (ns : List ℕ). view_of t.after (grown v.own (size_of t.before) (size_of t.after)) ns) (map-append
+      ∙ ap (λ (ns : List ℕ). view_of t.after (with_place v.own (size_of t.before) (size_of t.after)) ns) (map-append
       number_of v.own_marks (marks_between t.before.marks t.after.marks) ∙ ap (λ (ns : List ℕ). numbers ++ ns)
       (numbers-between t.before.marks t.after.marks))
 

@@ -19,18 +19,18 @@ use Rattle.td_cdr.proofs.shared.Shared.TheSendSync as shared_cross
 use Rattle.td_cdr.proofs.text.Text.TheSendSync as text_cross
 use Rattle.td_cell.proofs.cell.Cell.TheSendSync as cell_cross
 use Rattle.td_cell.proofs.pass.Pass.TheSendSync as pass_cross
-use Rattle.td_codes.proofs.code.TypeCode.TheLaws.TheKnot.{send-TypeCode, send-Any, sync-Any}
-use Rattle.td_codes.proofs.reference.Ior.TheSendSync as ior_cross
-use Rattle.td_codes.specs.contracts.code.Any as any
-use Rattle.td_codes.specs.contracts.code.TypeCode as code
+use Rattle.td_typecode.proofs.code.TypeCode.TheLaws.TheKnot.{send-TypeCode, send-Any, sync-Any}
+use Rattle.td_typecode.proofs.reference.Ior.TheSendSync as ior_cross
+use Rattle.td_typecode.specs.contracts.code.Any as any
+use Rattle.td_typecode.specs.contracts.code.TypeCode as code
 use Rattle.td_group.specs.contracts.pass.GroupPass as group_pass
 use Rattle.td_marks.proofs.ring.Ring.TheSendSync as ring_cross
 use Rattle.td_ops.specs.contracts.call.Change as change
 use Rattle.td_policy.proofs.attributes.Attributes.TheSendSync as attributes_cross
 use Rattle.td_register.proofs.change_reply.ChangeReply.TheSendSync as change_reply_cross
 use Rattle.td_register.specs.contracts.history.Accepted as accepted
-use Rattle.td_group.specs.contracts.stall.Stall as stall
-use Rattle.td_group.specs.contracts.stall.Stall.TheInside as stall_inside
+use Rattle.td_group.specs.contracts.shared_trader.SharedTrader as shared_trader
+use Rattle.td_group.specs.contracts.shared_trader.SharedTrader.TheInside as shared_trader_inside
 use Rattle.td_store.proofs.links.Links.TheSendSync as links_cross
 use Rattle.td_store.proofs.slab.Slab.TheSendSync as slab_cross
 use Rattle.td_store.specs.contracts.offers.Offers as offers
@@ -191,11 +191,11 @@ trader_send =
     )))
 
 -- ---- a trader in a cell, and a group's pass
-pub stall_send : IsSend stall.the_row
-stall_send =
-    view_send stall_inside.the_row _ _ _ _
-    (recorded_send (stall_inside.the_field).row _ _ (stall_inside.the_type).to_one
-    (struct_send (shape stall_inside.the_type) (trader_send, tt)))
+pub shared_trader_send : IsSend shared_trader.the_row
+shared_trader_send =
+    view_send shared_trader_inside.the_row _ _ _ _
+    (recorded_send (shared_trader_inside.the_field).row _ _ (shared_trader_inside.the_type).to_one
+    (struct_send (shape shared_trader_inside.the_type) (trader_send, tt)))
 
 module _ (a : NamedLft) (R : RattleType) (s : IsSync R) where
   pub group_pass_field : IsSend (group_pass.the_field a R).row
@@ -207,8 +207,8 @@ module _ (a : NamedLft) (R : RattleType) (s : IsSync R) where
           (
             search (sendable, Vec-sync, text_cross.the_sync) depth 20,
             (
-              search (sendable, Vec-sync, cell_cross.the_sync, stall_send) depth 20,
-              (search (crosses, pass_cross.the_send, stall_send) depth 20, tt),
+              search (sendable, Vec-sync, cell_cross.the_sync, shared_trader_send) depth 20,
+              (search (crosses, pass_cross.the_send, shared_trader_send) depth 20, tt),
             ),
           ),
         ),

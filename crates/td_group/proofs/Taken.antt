@@ -7,19 +7,19 @@ use Rattle.std.proofs.lemmas.Option.{slice_get_read}
 use Rattle.std.specs.List.{All, IsDistinct}
 use Rattle.std.specs.Str.{bytes_eq}
 use Rattle.td_cell.specs.Passes.{Belongs, SameCell, knowledge}
-use Rattle.td_cell.specs.Rules.{Turned}
+use Rattle.td_cell.specs.Rules.{ActsOnce}
 use Rattle.td_cell.specs.declared.book.Book.{Ghosts}
 use Rattle.td_cell.specs.declared.cell.Cell.{Cell}
 use Rattle.td_cell.specs.declared.pass.Pass.{Pass}
 use Rattle.td_trader.specs.Following.{FollowsWritably}
 use Rattle.td_trader.specs.PlainTraders.{PlainTrader}
 use Rattle.td_trader.specs.Worlds.{AdmittedAt, AdmittedIn, LegalAt, LegalIn, View, history_at, history_in, name_at}
-use Rattle.td_group.specs.Acting.{Acts}
+use Rattle.td_group.specs.Acting.{TraderActs}
 use Rattle.td_group.specs.Grouping.{MakesOneTurn, marks_of, size_of}
 use Rattle.td_group.specs.Seeing.{TurnAt, seen_by, trader_of}
-use Rattle.td_group.specs.Soundness.{IsSound}
-use Rattle.td_group.specs.declared.stall.Act.{Act}
-use Rattle.td_group.specs.declared.stall.Reply.{Reply}
+use Rattle.td_group.specs.Soundness.{IsLegalTrader}
+use Rattle.td_group.specs.declared.shared_trader.Act.{Act}
+use Rattle.td_group.specs.declared.shared_trader.Reply.{Reply}
 use Rattle.td_group.proofs.Calls.{distinct_seen, name_seen}
 use Rattle.td_group.proofs.RowLaws.{all_at, got, kept_at, named_inside, paired_inside, same_at}
 use Rattle.td_group.proofs.Seen.{some_one, sound_on, turn_at, turn_follows}
@@ -27,18 +27,18 @@ use Rattle.td_group.proofs.Seen.{some_one, sound_on, turn_at, turn_follows}
 module _ {A R : Type 0} {g : Ghosts PlainTrader A R} where
   -- ---- a turn
 
-  pub pass_follows : (p q : Pass PlainTrader A R g) (a : Act) (r : Reply) → Turned FollowsWritably size_of marks_of Acts
+  pub pass_follows : (p q : Pass PlainTrader A R g) (a : Act) (r : Reply) → ActsOnce FollowsWritably size_of marks_of TraderActs
       (knowledge p) a r (knowledge q) → FollowsWritably (trader_of p) (trader_of q)
   pass_follows p q a r t = turn_follows (knowledge p) (knowledge q) p.knows q.knows a r t
 
   module _ (ps : List (Pass PlainTrader A R g)) (k : ℕ) (p q : Pass PlainTrader A R g)
       (is : p ≡ slice_index_or ps k p) where
     pub stay_sound : k < length ps → FollowsWritably (trader_of p) (trader_of q)
-        → All (λ (x : Pass PlainTrader A R g). IsSound (trader_of x)) ps
-        → All (λ (x : Pass PlainTrader A R g). IsSound (trader_of x)) (slice_set ps k q)
+        → All (λ (x : Pass PlainTrader A R g). IsLegalTrader (trader_of x)) ps
+        → All (λ (x : Pass PlainTrader A R g). IsLegalTrader (trader_of x)) (slice_set ps k q)
     stay_sound inside f all =
-        All-set (λ (x : Pass PlainTrader A R g). IsSound (trader_of x)) ps k q (sound_on (trader_of p) (trader_of q) f.follows
-        (all_at (λ (x : Pass PlainTrader A R g). IsSound (trader_of x)) ps k p all inside is)) all
+        All-set (λ (x : Pass PlainTrader A R g). IsLegalTrader (trader_of x)) ps k q (sound_on (trader_of p) (trader_of q) f.follows
+        (all_at (λ (x : Pass PlainTrader A R g). IsLegalTrader (trader_of x)) ps k p all inside is)) all
 
     pub kept_cells : SameCell q p → map (λ (x : Pass PlainTrader A R g). x.seat.table_id) (slice_set ps k q)
         ≡ map (λ (x : Pass PlainTrader A R g). x.seat.table_id) ps
@@ -62,7 +62,7 @@ module _ {A R : Type 0} {g : Ghosts PlainTrader A R} where
           ∙ ap (slice_set (map (λ (x : Pass PlainTrader A R g). (knowledge x).turns) ps) k) more;
     }
 
-    pub turn_seen : (a : Act) (r : Reply) → Turned FollowsWritably size_of marks_of Acts (knowledge p) a r (knowledge q)
+    pub turn_seen : (a : Act) (r : Reply) → ActsOnce FollowsWritably size_of marks_of TraderActs (knowledge p) a r (knowledge q)
         → k < length ps → TurnAt (map seen_by ps) k a r (map seen_by (slice_set ps k q))
     turn_seen a r t inside =
         turn_at (knowledge p) (knowledge q) p.knows q.knows a r t seen_by ps k p q refl refl inside is
@@ -108,17 +108,17 @@ module _ {A R : Type 0} {g : Ghosts PlainTrader A R} where
     seen-at : slice_get (map seen_by ps) k ≡ Some (seen_by p)
     seen-at = got seen_by ps k p pass-inside is
 
-    sound-at : All (λ (x : Pass PlainTrader A R g). IsSound (trader_of x)) ps → IsSound (trader_of p)
-    sound-at all = all_at (λ (x : Pass PlainTrader A R g). IsSound (trader_of x)) ps k p all pass-inside is
+    sound-at : All (λ (x : Pass PlainTrader A R g). IsLegalTrader (trader_of x)) ps → IsLegalTrader (trader_of p)
+    sound-at all = all_at (λ (x : Pass PlainTrader A R g). IsLegalTrader (trader_of x)) ps k p all pass-inside is
 
     pub point_at : (n : ℕ) → ((t : PlainTrader) → (knowledge p).seen ≡ Some t → n ≡ size_of t)
         → n ≡ length (history_at (map seen_by ps) k)
-    point_at n told =
-        told (trader_of p) (some_one (knowledge p).seen p.knows)
+    point_at n content =
+        content (trader_of p) (some_one (knowledge p).seen p.knows)
         ∙ sym (ap (λ o. length (history_in o)) seen-at)
 
-    pub legal_at : All (λ (x : Pass PlainTrader A R g). IsSound (trader_of x)) ps → LegalAt (map seen_by ps) k
+    pub legal_at : All (λ (x : Pass PlainTrader A R g). IsLegalTrader (trader_of x)) ps → LegalAt (map seen_by ps) k
     legal_at all = subst LegalIn (sym seen-at) (sound-at all).0
 
-    pub admitted_at : All (λ (x : Pass PlainTrader A R g). IsSound (trader_of x)) ps → AdmittedAt (map seen_by ps) k
+    pub admitted_at : All (λ (x : Pass PlainTrader A R g). IsLegalTrader (trader_of x)) ps → AdmittedAt (map seen_by ps) k
     admitted_at all = subst AdmittedIn (sym seen-at) (sound-at all).1

@@ -5,14 +5,14 @@ use Rattle.std.specs.List.{AllZip}
 use Rattle.td_cdr.specs.Marks.{In, Marks}
 use Rattle.td_cell.specs.Lists.{itself, merge}
 use Rattle.td_cell.specs.OwnMarks.{number_of}
-use Rattle.td_cell.specs.Passes.{Belongs, IsOpening, IsSplitOff, SameCell, knowledge, opened}
-use Rattle.td_cell.specs.Rules.{Learns, all_met, first_view, meeting, opener, split_off}
+use Rattle.td_cell.specs.Passes.{Belongs, IsOpening, IsSplitOff, SameCell, knowledge, opened_book}
+use Rattle.td_cell.specs.Rules.{Learns, all_met, first_view, met_view, opener, split_off}
 use Rattle.td_cell.specs.declared.book.Book.{Ghosts}
 use Rattle.td_cell.specs.declared.cell.Cell.{Cell}
 use Rattle.td_cell.specs.declared.pass.Pass.{Pass}
 use Rattle.td_trader.specs.Following.{FollowsWritably}
 use Rattle.td_trader.specs.PlainTraders.{PlainTrader}
-use Rattle.td_group.specs.Rows.{Front, Rows}
+use Rattle.td_group.specs.Rows.{DropsFront, Rows}
 use Rattle.td_group.specs.Seeing.{trader_of}
 
 -- how long a trader's history is, and its marks
@@ -24,24 +24,24 @@ marks_of t = t.marks
 
 -- the name of the trader with which a cell was opened
 abbrev pub opened_name : {A R : Type 0} → Cell PlainTrader A R → List ℕ
-opened_name c = (opened c).name
+opened_name c = (opened_book c).name
 
 module _ {A R : Type 0} {g : Ghosts PlainTrader A R} where
   -- ---- the opening passes of a group
 
   -- the trader was put into the cell, and the cell's opening pass has seen it and has no acts
-  pub record IsFresh (t : PlainTrader) (c : Cell PlainTrader A R)
+  pub record IsPutIn (t : PlainTrader) (c : Cell PlainTrader A R)
       (p : Pass PlainTrader A R g) : Type 0 where
     pub belongs : Belongs p c
     pub opening : IsOpening p
-    pub opened_is : opened c ≡ t
+    pub opened_is : opened_book c ≡ t
     pub seen : knowledge p ≡ first_view t (size_of t) (marks_of t).count
 
   -- the cell's opening pass, which has seen what the trader has become with which the cell was opened
   pub record IsOpeningOf (c : Cell PlainTrader A R) (p : Pass PlainTrader A R g) : Type 0 where
     pub belongs : Belongs p c
     pub opening : IsOpening p
-    pub seen : FollowsWritably (opened c) (trader_of p)
+    pub seen : FollowsWritably (opened_book c) (trader_of p)
 
   -- the opening passes of the cells, in order
   abbrev pub AreOpening : List (Cell PlainTrader A R) → List (Pass PlainTrader A R g) → Type 0
@@ -54,7 +54,7 @@ module _ {A R : Type 0} {g : Ghosts PlainTrader A R} where
     pub pass : Pass PlainTrader A R g
     pub cells_are : after ≡ cells ++ cell ∷ []
     pub passes_are : passes_after ≡ passes ++ pass ∷ []
-    pub fresh : IsFresh t cell pass
+    pub fresh : IsPutIn t cell pass
 
   -- ---- a session's passes
 
@@ -101,14 +101,14 @@ module _ {A R : Type 0} {g : Ghosts PlainTrader A R} where
   MakesOneTurnAtMost ps k qs = (turns_of qs ≡ turns_of ps) ⊎ MakesOneTurn ps k qs
 
   -- q is p, an opening pass, after it met t: it has seen the later of what both have, and has the acts of both
-  pub record Meets (p t q : Pass PlainTrader A R g) : Type 0 where
+  pub record MeetsPass (p t q : Pass PlainTrader A R g) : Type 0 where
     pub same_cell : SameCell q p
     pub opening : IsOpening q
     pub met : (knowledge q).met ≡ slice_set (knowledge p).met ((knowledge t).number - 1) true
-    pub learned : Learns FollowsWritably size_of marks_of (meeting (knowledge p) (knowledge t))
+    pub learned : Learns FollowsWritably size_of marks_of (met_view (knowledge p) (knowledge t))
         (knowledge q)
 
-  -- ---- where memory was wanted
+  -- ---- when memory ran out
 
   pub record IsUnchanged (p q : Pass PlainTrader A R g) : Type 0 where
     pub same_cell : SameCell q p
@@ -127,10 +127,10 @@ module _ {A R : Type 0} {g : Ghosts PlainTrader A R} where
   abbrev pub IsAsBefore : (p q : Pass PlainTrader A R g) → Type 0
   IsAsBefore p q = IsUnchanged p q ⊎ IsMetAgain p q
 
-  -- some passes were split off, and for the next one memory was wanted
+  -- some passes were split off, and for the next one memory ran out
   pub record SplitsInPart (passes out after : List (Pass PlainTrader A R g)) : Type 0 where
     pub between : List (Pass PlainTrader A R g)
-    pub split : Front SplitsOff out passes between
+    pub split : DropsFront SplitsOff out passes between
     pub here : Pass PlainTrader A R g
     pub next : Pass PlainTrader A R g
     pub at : here ≡ slice_index_or between (length out) here
@@ -152,12 +152,12 @@ module _ {A R : Type 0} {g : Ghosts PlainTrader A R} where
 
   -- The trader that was taken out of the cell: it has become what it is from what the pass has seen, and each change
   -- since the cell was opened is one of the pass's own.
-  pub record IsClosed (c : Cell PlainTrader A R) (p : Pass PlainTrader A R g)
+  pub record IsTakenOut (c : Cell PlainTrader A R) (p : Pass PlainTrader A R g)
       (t : PlainTrader) : Type 0 where
     pub met : all_met (knowledge p).met ≡ true
-    pub since : FollowsWritably (opened c) t
+    pub since : FollowsWritably (opened_book c) t
     pub seen : FollowsWritably (trader_of p) t
-    pub places : (k : ℕ) → size_of (opened c) ≤ k → k < size_of t → In k (knowledge p).own
+    pub places : (k : ℕ) → size_of (opened_book c) ≤ k → k < size_of t → In k (knowledge p).own
 
   -- what is still to close is closed as all was to be
   abbrev pub ClosesOn : (cells0 : List (Cell PlainTrader A R))
@@ -165,12 +165,12 @@ module _ {A R : Type 0} {g : Ghosts PlainTrader A R} where
       → List (Cell PlainTrader A R) → List (Pass PlainTrader A R g) → (kept : List PlainTrader)
       → Type 0
   ClosesOn cells0 passes0 cells passes kept =
-      (ts : List PlainTrader) → Rows IsClosed cells passes ts
-      → Rows IsClosed cells0 passes0 (ts ++ reverse kept)
+      (ts : List PlainTrader) → Rows IsTakenOut cells passes ts
+      → Rows IsTakenOut cells0 passes0 (ts ++ reverse kept)
 
   -- with what is still to open, what stands in cells makes what all makes
   abbrev pub OpensOn : (all : List PlainTrader) → (left : List PlainTrader)
       → List (Cell PlainTrader A R) → List (Pass PlainTrader A R g) → Type 0
   OpensOn all left cells passes =
       (cs : List (Cell PlainTrader A R)) (ps : List (Pass PlainTrader A R g))
-      → Rows IsFresh left cs ps → Rows IsFresh all (cells ++ cs) (passes ++ ps)
+      → Rows IsPutIn left cs ps → Rows IsPutIn all (cells ++ cs) (passes ++ ps)

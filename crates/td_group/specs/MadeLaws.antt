@@ -1,9 +1,9 @@
 -- The laws of the identifiers that acts make.
 use Rattle.std.proofs.Common.{◌≡◌, ℕ, ◌+◌, ◌-◌, ◌<◌, ◌≤◌, ◌^◌, List, [], ◌∷◌, ◌++◌, length, Option, Some, None, Result}
 use Rattle.std.proofs.Common.{Ok, Err, refl, sym, ap, subst, ◌∙◌, arith}
-use Rattle.td_cdr.specs.Marks.{Marks, Remembered, entry_of, kept_beside, last_identifier, made_identifier, marked}
+use Rattle.td_cdr.specs.Marks.{Marks, RememberedMark, entry_of, kept_beside, last_identifier, made_identifier, add_mark}
 use Rattle.td_cdr.specs.declared.memory.Memory.{Memory}
-use Rattle.td_marks.specs.Keeping.{IsKept as AreMarks}
+use Rattle.td_marks.specs.Keeping.{AreRingMarks as AreMarks}
 use Rattle.td_marks.specs.Making.{next_value}
 use Rattle.td_marks.proofs.Free.{is_next}
 use Rattle.td_ops.specs.declared.call.Query.{Query}
@@ -12,7 +12,7 @@ use Rattle.td_register.specs.Causes.{Cause}
 use Rattle.td_register.specs.Stores.{Store}
 use Rattle.td_register.specs.declared.refusal.Refusal.{Refusal}
 use Rattle.td_trader.specs.BeginLaws.{AreKept}
-use Rattle.td_trader.specs.Beginning.{after_begin, begin_of, begin_unless, identified}
+use Rattle.td_trader.specs.Beginning.{after_begin, begin_of, begin_unless, query_identifier}
 use Rattle.td_trader.specs.PlainTraders.{AreBounds, PlainTrader, after_begin as trader_after, begin_at, store_of}
 use Rattle.td_trader.specs.Queries.{parts_of, refusal}
 use Rattle.td_trader.specs.declared.begin.Begin.{Begin}
@@ -20,14 +20,15 @@ use Rattle.td_trader.specs.declared.begin.Begin.TheVariants.{Refused, Repeat, Se
 use Rattle.td_trader.proofs.Counted.{has-room}
 use Rattle.td_trader.proofs.Growing.{change-once, look-once}
 use Rattle.td_trader.proofs.MarkedOnce.{left-over}
-use Rattle.td_group.specs.Acting.{Acts, StartsQuery}
+use Rattle.td_group.specs.Acting.{TraderActs, StartsQuery}
 use Rattle.td_group.specs.Made.{MakesAt}
-use Rattle.td_group.specs.declared.stall.Act.{Act}
-use Rattle.td_group.specs.declared.stall.Act.TheVariants as act
-use Rattle.td_group.specs.declared.stall.Reply.{Reply}
-use Rattle.td_group.specs.declared.stall.Reply.TheVariants as reply
+use Rattle.td_group.specs.declared.shared_trader.Act.{Act}
+use Rattle.td_group.specs.declared.shared_trader.Act.TheVariants as act
+use Rattle.td_group.specs.declared.shared_trader.Reply.{Reply}
+use Rattle.td_group.specs.declared.shared_trader.Reply.TheVariants as reply
 
-last-snoc : (es : List Remembered) (e : Remembered) → last_identifier (es ++ e ∷ []) ≡ e.identifier
+last-snoc : (es : List RememberedMark) (e : RememberedMark) → last_identifier (es ++ e ∷ [])
+    ≡ e.identifier
 last-snoc [] e = refl
 last-snoc (f ∷ []) e = refl
 last-snoc (f ∷ g ∷ es) e = last-snoc (g ∷ es) e
@@ -44,8 +45,8 @@ makes-none s m = λ less. absurd (omega arith)
 
 module _ (s : Store) (m : Marks) where
   makes-named : AreKept m → (stated : Option (List ℕ))
-      → Makes s m (marked m (identified m s.attributes.request_id_stem stated).identifier
-      (identified m s.attributes.request_id_stem stated).counter)
+      → Makes s m (add_mark m (query_identifier m s.attributes.request_id_stem stated).identifier
+      (query_identifier m s.attributes.request_id_stem stated).counter)
   makes-named k (Some i) = λ less. absurd (omega arith)
   makes-named k None = λ less.
       let stem = s.attributes.request_id_stem in
@@ -102,7 +103,7 @@ starts t u q (Ok b) h =
     (begun t q h.bounds h.marks)
 starts t u q (Err e) h = same t u (ap (λ (x : PlainTrader). x.marks) h.begins)
 
-pub act_makes : (t : PlainTrader) (a : Act) (r : Reply) (u : PlainTrader) → Acts t a r u
+pub act_makes : (t : PlainTrader) (a : Act) (r : Reply) (u : PlainTrader) → TraderActs t a r u
     → MakesAt t u
 act_makes t (act.Change c) (reply.Changed r) u h = same t u (change-once t u c r h.changes).marks
 act_makes t (act.Change c) (reply.Looked r) u h = absurd h

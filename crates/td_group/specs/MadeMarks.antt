@@ -1,5 +1,5 @@
--- The marks that a session makes at a trader, and their identifiers (OMG's Trading Object Service, the policy request_id
--- of a query and the attribute request_id_stem).
+-- The marks that a session makes at a trader, and their identifiers (OMG's Trading Object Service, the policy
+-- request_id of a query and the attribute request_id_stem).
 use Rattle.std.specs.Prelude.{◌≡◌, ℕ, List, ◌++◌, slice_get, Some}
 use Rattle.td_cdr.specs.Marks.{In}
 use Rattle.td_cell.specs.Passes.{knowledge}

@@ -20,12 +20,12 @@ module _ {A B : Type 0} (S : A → B → Type 0) where
 
 -- The elements in front have become what R says beside ts, and the others are as they were.
 module _ {A B : Type 0} (R : A → B → A → Type 0) where
-  abbrev pub Front : List B → List A → List A → Type 0
-  Front [] ps qs = qs ≡ ps
-  Front (t ∷ ts) [] qs = ⊥
-  Front (t ∷ ts) (p ∷ ps) [] = ⊥
-  Front (t ∷ ts) (p ∷ ps) (q ∷ qs) = R p t q × Front ts ps qs
+  abbrev pub DropsFront : List B → List A → List A → Type 0
+  DropsFront [] ps qs = qs ≡ ps
+  DropsFront (t ∷ ts) [] qs = ⊥
+  DropsFront (t ∷ ts) (p ∷ ps) [] = ⊥
+  DropsFront (t ∷ ts) (p ∷ ps) (q ∷ qs) = R p t q × DropsFront ts ps qs
 
   -- what ts and ps still lead to, they led to at first
   abbrev pub LeadsOn : (ts0 : List B) (ps0 : List A) → List B → List A → Type 0
-  LeadsOn ts0 ps0 ts ps = (qs : List A) → Front ts ps qs → Front ts0 ps0 qs
+  LeadsOn ts0 ps0 ts ps = (qs : List A) → DropsFront ts ps qs → DropsFront ts0 ps0 qs

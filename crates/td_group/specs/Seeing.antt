@@ -2,7 +2,7 @@
 use Rattle.std.specs.Prelude.{◌≡◌, ℕ, List, ◌++◌, map, length, Option, Some, None, IsSome}
 use Rattle.std.proofs.lemmas.Bool.{false≢true}
 use Rattle.td_cdr.specs.Marks.{Later}
-use Rattle.td_cell.specs.Lists.{grown}
+use Rattle.td_cell.specs.Lists.{with_place}
 use Rattle.td_cell.specs.OwnMarks.{number_of}
 use Rattle.td_cell.specs.Passes.{knowledge}
 use Rattle.td_cell.specs.declared.book.Book.{Ghosts}
@@ -11,9 +11,9 @@ use Rattle.td_cell.specs.declared.pass.View.{View as Knowledge}
 use Rattle.td_trader.specs.Admitted.{AreAdmitted}
 use Rattle.td_trader.specs.PlainTraders.{PlainTrader}
 use Rattle.td_trader.specs.Worlds.{Meanwhile, View, number_between, view_of, with_view}
-use Rattle.td_group.specs.Acting.{Acts}
-use Rattle.td_group.specs.declared.stall.Act.{Act}
-use Rattle.td_group.specs.declared.stall.Reply.{Reply}
+use Rattle.td_group.specs.Acting.{TraderActs}
+use Rattle.td_group.specs.declared.shared_trader.Act.{Act}
+use Rattle.td_group.specs.declared.shared_trader.Reply.{Reply}
 
 -- ---- what is seen
 
@@ -36,15 +36,15 @@ module _ {A R : Type 0} {g : Ghosts PlainTrader A R} where
 
 -- ---- a turn
 
--- One turn at trader k: what others did since the last call is there, any legal changes that can be written, and then the act is done, once. Its entry and its
--- mark, where it made one, are one's own.
+-- One turn at trader k: what others did since the last call is there, any legal changes that can be written, and then
+-- the act is done, once. Its entry and its mark, where it made one, are one's own.
 pub record TurnAt (w : List View) (k : ℕ) (a : Act) (r : Reply) (u : List View) : Type 0 where
   pub seen : View
   pub meanwhile : Meanwhile AreAdmitted Later w k seen
   pub before : PlainTrader
   pub seen_is : seen ≡ view_of before seen.own seen.own_marks
   pub after : PlainTrader
-  pub acts : Acts before a r after
+  pub acts : TraderActs before a r after
   pub world : u ≡ with_view w k
-      (view_of after (grown seen.own (length before.history) (length after.history))
+      (view_of after (with_place seen.own (length before.history) (length after.history))
       (seen.own_marks ++ number_between before.marks after.marks))

@@ -12,8 +12,8 @@ use Rattle.td_changes.specs.declared.bounds.Bounds.{Bounds}
 use Rattle.td_trader.specs.PlainTraders.{HasShortReplies, PlainTrader}
 
 -- its history is legal from its opening store on, and that store was admitted
-abbrev pub IsSound : PlainTrader → Type 0
-IsSound t = Legal t.bounds t.opening t.history × HasShortReplies t.opening
+abbrev pub IsLegalTrader : PlainTrader → Type 0
+IsLegalTrader t = Legal t.bounds t.opening t.history × HasShortReplies t.opening
 
 -- ---- that it is so can be shown in one way at most
 
@@ -33,10 +33,10 @@ short_prop s p q = λ i. record {
   last_offer = le_prop p.last_offer q.last_offer i;
 }
 
-sound_prop : (t : PlainTrader) → IsProp (IsSound t)
+sound_prop : (t : PlainTrader) → IsProp (IsLegalTrader t)
 sound_prop t = ×_prop (legal_prop t.bounds 0 t.opening t.history) (short_prop t.opening)
 
 pub all_sound_prop : {X : Type 0} (f : X → PlainTrader) (xs : List X)
-    → IsProp (All (λ (x : X). IsSound (f x)) xs)
+    → IsProp (All (λ (x : X). IsLegalTrader (f x)) xs)
 all_sound_prop {X} f xs =
     Π_prop (λ (k : ℕ). Π_prop (λ (d : X). →_prop (sound_prop (f (slice_index_or xs k d)))))

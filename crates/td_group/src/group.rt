@@ -5,16 +5,17 @@ ghost use Rattle.std.specs.List.{All, AllZip, IsDistinct};
 ghost use Rattle.std.specs.Prelude.{◌≡◌, ◌≤◌, map, vec_len, vec_capacity, IfOk, IfErr, OnOk, OnErr};
 ghost use Rattle.std.specs.Prelude.{false};
 ghost use Rattle.std.specs.Str.{bytes_eq};
-ghost use Rattle.td_cell.specs.Passes.{opened};
-ghost use Rattle.td_group.specs.Soundness.{IsSound, all_sound_prop};
-ghost use Rattle.td_group.specs.Grouping.{AreOpening, IsAsBefore, IsClosed, IsFresh, IsOut, IsReady, Meets, OpensOne};
+ghost use Rattle.td_cell.specs.Passes.{opened_book};
+ghost use Rattle.td_group.specs.Soundness.{IsLegalTrader, all_sound_prop};
+ghost use Rattle.td_group.specs.Grouping.{AreOpening, IsAsBefore, IsTakenOut, IsPutIn, IsOut, IsReady, MeetsPass};
+ghost use Rattle.td_group.specs.Grouping.{OpensOne};
 ghost use Rattle.td_group.specs.Grouping.{OutStays, SplitsInPart, SplitsOff, are_met, opened_name};
-ghost use Rattle.td_group.specs.Rows.{Beside, Front, Rows};
+ghost use Rattle.td_group.specs.Rows.{Beside, DropsFront, Rows};
 ghost use Rattle.td_trader.specs.PlainTraders.{PlainTrader};
 ghost use Rattle.td_trader.specs.Solos.{AreDistinct};
 
 use crate::pass::GroupPass;
-use crate::stall::Stall;
+use crate::shared_trader::SharedTrader;
 use std::alloc::Global;
 use std::sync::Wait;
 use td_cdr::{Memory, Text, Twin};
@@ -25,12 +26,12 @@ use td_trader::{Solo, Trader};
 #[derive(Drop)]
 pub struct Group {
     names: Vec<Text>,
-    cells: Vec<Cell<Stall>>,
+    cells: Vec<Cell<SharedTrader>>,
     /// The list that `open` emptied, and that `close` fills.
     kept: Vec<Trader>,
     ghost named: { map opened_name cells.items ≡ names.items },
     ghost distinct: { IsDistinct bytes_eq names.items } by { Prim.hlevel props },
-    ghost sound: { All (λ c. IsSound (opened c)) cells.items } by { all_sound_prop opened cells.items },
+    ghost sound: { All (λ c. IsLegalTrader (opened_book c)) cells.items } by { all_sound_prop opened_book cells.items },
     ghost empty: { vec_len kept ≡ 0 },
     ghost room: { vec_len cells ≤ vec_capacity kept },
 }
@@ -40,10 +41,10 @@ impl Group {
     ///
     /// # Errors
     ///
-    /// `Memory` for want of memory alone. The traders are then dropped.
-    pub fn open(alloc: Global, solo: Solo) -> Result<(Group, Vec<Pass<Stall>>), Memory>
+    /// `Memory` only when out of memory. The traders are then dropped.
+    pub fn open(alloc: Global, solo: Solo) -> Result<(Group, Vec<Pass<SharedTrader>>), Memory>
         ensures opened { IfOk result
-            (λ r. Rows IsFresh solo.traders.items r.0.cells.items r.1.items) }
+            (λ r. Rows IsPutIn solo.traders.items r.0.cells.items r.1.items) }
         ensures opening { IfOk result (λ r. AreOpening r.0.cells.items r.1.items) }
     {
         let Solo { traders } = solo;
@@ -55,13 +56,13 @@ impl Group {
     ///
     /// # Errors
     ///
-    /// `Memory` for want of memory alone. What was split off before is then met again by the opening pass that it was
+    /// `Memory` only when out of memory. What was split off before is then met again by the opening pass that it was
     /// split off.
     pub fn pass<'a, R: Wait>(
         &'a self,
         rt: &'a R,
         alloc: Global,
-        passes: &mut Vec<Pass<Stall>>,
+        passes: &mut Vec<Pass<SharedTrader>>,
     ) -> Result<GroupPass<'a, R>, Memory>
         requires { AreOpening self.now.cells.items passes.old.items }
         ensures opening { AreOpening self.now.cells.items passes.new.items }
@@ -78,11 +79,15 @@ impl Group {
     }
 
     /// Takes the passes of a session in that has ended: each opening pass has then the acts of both. Takes no memory.
-    pub fn take_in<'a, R: Wait>(&'a self, passes: &mut Vec<Pass<Stall>>, ended: GroupPass<'a, R>)
+    pub fn take_in<'a, R: Wait>(
+        &'a self,
+        passes: &mut Vec<Pass<SharedTrader>>,
+        ended: GroupPass<'a, R>,
+    )
         requires opening { AreOpening self.now.cells.items passes.old.items }
         requires out { AllZip IsOut passes.old.items ended.passes.items }
         ensures opening { AreOpening self.now.cells.items passes.new.items }
-        ensures met { Rows Meets passes.old.items ended.entry.passes.items passes.new.items }
+        ensures met { Rows MeetsPass passes.old.items ended.entry.passes.items passes.new.items }
         ensures stays { OutStays passes.old.items passes.new.items }
     {
         self.meet_all(passes, ended.into_passes());
@@ -94,10 +99,13 @@ impl Group {
     /// # Errors
     ///
     /// The group and the passes, unchanged, exactly where a pass that was split off hasn't been taken in.
-    pub fn close(self, passes: Vec<Pass<Stall>>) -> Result<Solo, (Group, Vec<Pass<Stall>>)>
+    pub fn close(
+        self,
+        passes: Vec<Pass<SharedTrader>>,
+    ) -> Result<Solo, (Group, Vec<Pass<SharedTrader>>)>
         requires { AreOpening self.cells.items passes.items }
         ensures closed { IfOk result
-            (λ s. Rows IsClosed self.cells.items passes.items s.traders.items) }
+            (λ s. Rows IsTakenOut self.cells.items passes.items s.traders.items) }
         ensures err { IfErr result (λ r. (are_met passes.items ≡ false) × (r ≡ (self, passes))) }
     {
         if !self.is_whole(&passes) {
@@ -110,12 +118,12 @@ impl Group {
         Ok(solo)
     }
 
-    /// Splits a pass off each opening pass. Where memory is wanted, what was split off before is met again.
+    /// Splits a pass off each opening pass. When memory runs out, what was split off before is met again.
     fn split_all(
         &self,
         alloc: Global,
-        passes: &mut Vec<Pass<Stall>>,
-    ) -> Result<Vec<Pass<Stall>>, Memory>
+        passes: &mut Vec<Pass<SharedTrader>>,
+    ) -> Result<Vec<Pass<SharedTrader>>, Memory>
         requires { AreOpening self.now.cells.items passes.old.items }
         ensures opening { AreOpening self.now.cells.items passes.new.items }
         ensures split { IfOk result
@@ -135,8 +143,8 @@ impl Group {
     /// Splits a pass off each opening pass, as far as there is memory.
     fn split_each(
         &self,
-        passes: &mut Vec<Pass<Stall>>,
-        out: &mut Vec<Pass<Stall>>,
+        passes: &mut Vec<Pass<SharedTrader>>,
+        out: &mut Vec<Pass<SharedTrader>>,
     ) -> Result<(), Memory>
         requires opening { AreOpening self.now.cells.items passes.old.items }
         requires room { (vec_len out.old ≡ 0) × (vec_len self.now.cells ≤ vec_capacity out.old) }
@@ -153,20 +161,20 @@ impl Group {
     }
 
     /// The first of the opening passes meet what was split off them.
-    fn meet_all(&self, passes: &mut Vec<Pass<Stall>>, mut told: Vec<Pass<Stall>>)
+    fn meet_all(&self, passes: &mut Vec<Pass<SharedTrader>>, mut content: Vec<Pass<SharedTrader>>)
         requires opening { AreOpening self.now.cells.items passes.old.items }
-        requires out { Beside IsOut told.items passes.old.items }
+        requires out { Beside IsOut content.items passes.old.items }
         ensures opening { AreOpening self.now.cells.items passes.new.items }
-        ensures met { Front Meets told.items passes.old.items passes.new.items }
+        ensures met { DropsFront MeetsPass content.items passes.old.items passes.new.items }
     {
-        while let Some(pass) = told.pop() {
-            let k = told.len();
+        while let Some(pass) = content.pop() {
+            let k = content.len();
             self.cells[k].meet(&mut passes[k], pass);
         }
     }
 
     /// Whether each pass that was split off has been met.
-    fn is_whole(&self, passes: &Vec<Pass<Stall>>) -> bool
+    fn is_whole(&self, passes: &Vec<Pass<SharedTrader>>) -> bool
         requires { AreOpening self.now.cells.items passes.now.items }
         ensures { result ≡ are_met passes.now.items }
     {
@@ -182,7 +190,7 @@ impl Group {
 /// A trader's name. Its history is legal and its opening store was admitted, as `point` tells.
 fn name_of(alloc: Global, trader: &Trader) -> Result<Text, Memory>
     ensures name { IfOk result (λ name. name ≡ trader.now.name) }
-    ensures sound { IsSound trader.now }
+    ensures sound { IsLegalTrader trader.now }
 {
     let _ = trader.point();
     trader.name().copy(alloc)
@@ -192,7 +200,7 @@ fn name_of(alloc: Global, trader: &Trader) -> Result<Text, Memory>
 fn names_of(alloc: Global, traders: &[Trader]) -> Result<Vec<Text>, Memory>
     ensures names { IfOk result (λ names. names.items
         ≡ map (λ (t : PlainTrader). t.name) traders.now) }
-    ensures sound { OnOk result (All IsSound traders.now) }
+    ensures sound { OnOk result (All IsLegalTrader traders.now) }
 {
     let mut names = Vec::new(alloc);
     for trader in traders {
@@ -207,11 +215,11 @@ fn open_all(
     alloc: Global,
     names: Vec<Text>,
     mut traders: Vec<Trader>,
-) -> Result<(Group, Vec<Pass<Stall>>), Memory>
+) -> Result<(Group, Vec<Pass<SharedTrader>>), Memory>
     requires names { names.items ≡ map (λ (t : PlainTrader). t.name) traders.items }
     requires distinct { AreDistinct traders.items }
-    requires sound { All IsSound traders.items }
-    ensures opened { IfOk result (λ r. Rows IsFresh traders.items r.0.cells.items r.1.items) }
+    requires sound { All IsLegalTrader traders.items }
+    ensures opened { IfOk result (λ r. Rows IsPutIn traders.items r.0.cells.items r.1.items) }
     ensures opening { IfOk result (λ r. AreOpening r.0.cells.items r.1.items) }
 {
     let mut cells = Vec::new(alloc);
@@ -230,11 +238,11 @@ fn open_all(
 fn open_each(
     alloc: Global,
     traders: &mut Vec<Trader>,
-    cells: &mut Vec<Cell<Stall>>,
-    passes: &mut Vec<Pass<Stall>>,
+    cells: &mut Vec<Cell<SharedTrader>>,
+    passes: &mut Vec<Pass<SharedTrader>>,
 ) -> Result<(), Memory>
     requires { (vec_len cells.old ≡ 0) × (vec_len passes.old ≡ 0) }
-    ensures opened { OnOk result (Rows IsFresh traders.old.items cells.new.items passes.new.items) }
+    ensures opened { OnOk result (Rows IsPutIn traders.old.items cells.new.items passes.new.items) }
     ensures empty { OnOk result (vec_len traders.new ≡ 0) }
 {
     traders.reverse();
@@ -248,13 +256,13 @@ fn open_each(
 fn open_one(
     alloc: Global,
     trader: Trader,
-    cells: &mut Vec<Cell<Stall>>,
-    passes: &mut Vec<Pass<Stall>>,
+    cells: &mut Vec<Cell<SharedTrader>>,
+    passes: &mut Vec<Pass<SharedTrader>>,
 ) -> Result<(), Memory>
     ensures { OnOk result
         (OpensOne trader cells.old.items cells.new.items passes.old.items passes.new.items) }
 {
-    let (cell, pass) = Cell::open(alloc, Stall { trader })?;
+    let (cell, pass) = Cell::open(alloc, SharedTrader { trader })?;
     cells.push(cell)?;
     passes.push(pass)?;
     Ok(())
@@ -262,13 +270,13 @@ fn open_one(
 
 /// Takes each trader out of its cell.
 fn close_all(
-    mut cells: Vec<Cell<Stall>>,
-    mut passes: Vec<Pass<Stall>>,
+    mut cells: Vec<Cell<SharedTrader>>,
+    mut passes: Vec<Pass<SharedTrader>>,
     mut kept: Vec<Trader>,
 ) -> Vec<Trader>
     requires ready { AllZip IsReady cells.items passes.items }
     requires room { (vec_len kept ≡ 0) × (vec_len cells ≤ vec_capacity kept) }
-    ensures { Rows IsClosed cells.items passes.items result.items }
+    ensures { Rows IsTakenOut cells.items passes.items result.items }
 {
     while let Some(cell) = cells.pop() {
         let pass = passes.take_last();
@@ -279,13 +287,13 @@ fn close_all(
 }
 
 /// Takes a trader out of its cell, all of whose passes have met.
-fn close_one(cell: Cell<Stall>, pass: Pass<Stall>) -> Trader
+fn close_one(cell: Cell<SharedTrader>, pass: Pass<SharedTrader>) -> Trader
     requires { IsReady cell pass }
-    ensures { IsClosed cell pass result }
+    ensures { IsTakenOut cell pass result }
 {
     match cell.close(pass) {
-        Ok(stall) => {
-            let Stall { trader } = stall;
+        Ok(shared_trader) => {
+            let SharedTrader { trader } = shared_trader;
             trader
         }
         Err(_) => unreachable!(),

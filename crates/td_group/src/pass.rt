@@ -5,14 +5,14 @@ ghost use Rattle.std.specs.List.{All, IsDistinct};
 ghost use Rattle.std.specs.Prelude.{◌≡◌, ◌<◌, length, map, IfOk, OnErr, OnOk};
 ghost use Rattle.std.specs.Str.{bytes_eq};
 ghost use Rattle.td_cdr.specs.Marks.{Later};
-ghost use Rattle.td_group.specs.Soundness.{IsSound, all_sound_prop};
+ghost use Rattle.td_group.specs.Soundness.{IsLegalTrader, all_sound_prop};
 ghost use Rattle.td_group.specs.Grouping.{MakesOneTurn, MakesOneTurnAtMost, SamePasses};
 ghost use Rattle.td_group.specs.MadeMarks.{MarksAt};
 ghost use Rattle.td_group.specs.Seeing.{TurnAt, seen_by, trader_of};
 ghost use Rattle.td_trader.specs.Admitted.{AdmitsChange, AreAdmitted};
-ghost use Rattle.td_trader.specs.Worlds.{Begun, Changes, Looks, Watches};
+ghost use Rattle.td_trader.specs.Worlds.{BeginsQuery, ChangesTrader, LooksAtTrader, Watches};
 
-use crate::stall::{Act, AdmittedChange, Reply, Stall};
+use crate::shared_trader::{Act, AdmittedChange, Reply, SharedTrader};
 use std::alloc::Global;
 use std::sync::Wait;
 use td_cdr::{Memory, Shared, Text, Twin};
@@ -27,13 +27,13 @@ pub struct GroupPass<'a, R: Wait> {
     rt: &'a R,
     alloc: Global,
     names: &'a Vec<Text>,
-    cells: &'a Vec<Cell<Stall>>,
-    passes: Vec<Pass<Stall>>,
+    cells: &'a Vec<Cell<SharedTrader>>,
+    passes: Vec<Pass<SharedTrader>>,
     ghost belongs: { map (λ p. p.seat.table_id) passes.items
         ≡ map (λ c. c.table.shared.table_id) cells.now.items },
     ghost named: { map (λ p. (trader_of p).name) passes.items ≡ names.now.items },
     ghost distinct: { IsDistinct bytes_eq names.now.items } by { Prim.hlevel props },
-    ghost sound: { All (λ p. IsSound (trader_of p)) passes.items } by { all_sound_prop trader_of passes.items },
+    ghost sound: { All (λ p. IsLegalTrader (trader_of p)) passes.items } by { all_sound_prop trader_of passes.items },
 }
 
 impl<'a, R: Wait> GroupPass<'a, R> {
@@ -42,14 +42,14 @@ impl<'a, R: Wait> GroupPass<'a, R> {
         rt: &'a R,
         alloc: Global,
         names: &'a Vec<Text>,
-        cells: &'a Vec<Cell<Stall>>,
-        passes: Vec<Pass<Stall>>,
+        cells: &'a Vec<Cell<SharedTrader>>,
+        passes: Vec<Pass<SharedTrader>>,
     ) -> GroupPass<'a, R>
         requires belongs { map (λ p. p.seat.table_id) passes.items
             ≡ map (λ c. c.table.shared.table_id) cells.now.items }
         requires named { map (λ p. (trader_of p).name) passes.items ≡ names.now.items }
         requires distinct { IsDistinct bytes_eq names.now.items }
-        requires sound { All (λ p. IsSound (trader_of p)) passes.items }
+        requires sound { All (λ p. IsLegalTrader (trader_of p)) passes.items }
         ensures passes { result.passes ≡ passes }
         ensures cells { result.cells.now ≡ cells.now }
     {
@@ -63,7 +63,7 @@ impl<'a, R: Wait> GroupPass<'a, R> {
     }
 
     /// The passes alone.
-    pub(crate) fn into_passes(self) -> Vec<Pass<Stall>>
+    pub(crate) fn into_passes(self) -> Vec<Pass<SharedTrader>>
         ensures { result ≡ self.entry.passes }
     {
         self.passes
@@ -86,7 +86,7 @@ impl<'a, R: Wait> GroupPass<'a, R> {
         requires { trader < length self.old.passes.items }
         ensures same { SamePasses self.old.passes.items self.new.passes.items }
         ensures ok { IfOk result
-            (λ a. Looks AreAdmitted Later (map seen_by self.old.passes.items) trader l a
+            (λ a. LooksAtTrader AreAdmitted Later (map seen_by self.old.passes.items) trader l a
             (map seen_by self.new.passes.items)) }
         ensures err { OnErr result
             (Watches AreAdmitted Later (map seen_by self.old.passes.items) trader
@@ -105,7 +105,7 @@ impl<'a, R: Wait> GroupPass<'a, R> {
         requires { trader < length self.old.passes.items }
         ensures same { SamePasses self.old.passes.items self.new.passes.items }
         ensures ok { IfOk result
-            (λ b. Begun AreAdmitted Later (map seen_by self.old.passes.items) trader q b
+            (λ b. BeginsQuery AreAdmitted Later (map seen_by self.old.passes.items) trader q b
             (map seen_by self.new.passes.items)) }
         ensures err { OnErr result
             (Watches AreAdmitted Later (map seen_by self.old.passes.items) trader
@@ -144,7 +144,7 @@ impl<'a, R: Wait> Traders for GroupPass<'a, R> {
         requires admitted { AdmitsChange c }
         ensures same { SamePasses self.old.passes.items self.new.passes.items }
         ensures ok { IfOk result
-            (λ o. Changes AreAdmitted Later (map seen_by self.old.passes.items) trader c o
+            (λ o. ChangesTrader AreAdmitted Later (map seen_by self.old.passes.items) trader c o
             (map seen_by self.new.passes.items)) }
         ensures err { OnErr result
             (Watches AreAdmitted Later (map seen_by self.old.passes.items) trader
@@ -158,12 +158,12 @@ impl<'a, R: Wait> Traders for GroupPass<'a, R> {
         }
     }
 
-    /// Makes one turn. An act is owned, so the look is copied before: where memory is wanted for that, it makes none.
+    /// Makes one turn. An act is owned, so the look is copied before: when memory runs out for that, it makes none.
     fn look(&mut self, trader: usize, l: &Look) -> Result<(Outcome, u32), Memory>
         requires { trader < length (map seen_by self.old.passes.items) }
         ensures same { SamePasses self.old.passes.items self.new.passes.items }
         ensures ok { IfOk result
-            (λ a. Looks AreAdmitted Later (map seen_by self.old.passes.items) trader l.now a
+            (λ a. LooksAtTrader AreAdmitted Later (map seen_by self.old.passes.items) trader l.now a
             (map seen_by self.new.passes.items)) }
         ensures err { OnErr result
             (Watches AreAdmitted Later (map seen_by self.old.passes.items) trader
@@ -184,7 +184,7 @@ impl<'a, R: Wait> Traders for GroupPass<'a, R> {
         requires { trader < length (map seen_by self.old.passes.items) }
         ensures same { SamePasses self.old.passes.items self.new.passes.items }
         ensures ok { IfOk result
-            (λ b. Begun AreAdmitted Later (map seen_by self.old.passes.items) trader q.now b
+            (λ b. BeginsQuery AreAdmitted Later (map seen_by self.old.passes.items) trader q.now b
             (map seen_by self.new.passes.items)) }
         ensures err { OnErr result
             (Watches AreAdmitted Later (map seen_by self.old.passes.items) trader

@@ -2,8 +2,8 @@
 use Rattle.std.proofs.Common.{ℕ, ◌^◌, ◌<◌, List, [], refl, arith}
 use Rattle.td_cdr.specs.Sound.{text}
 use Rattle.td_cdr.specs.Text.{HasNoNul}
-use Rattle.td_codes.specs.References.{profile, reference}
-use Rattle.td_codes.specs.declared.reference.Ior.{Ior}
+use Rattle.td_typecode.specs.References.{profile, reference}
+use Rattle.td_typecode.specs.declared.reference.Ior.{Ior}
 use Rattle.td_ops.specs.declared.call.Change.TheVariants as change
 use Rattle.td_trader.specs.Admitted.{AdmitsChange}
 use Rattle.td_types.proofs.Sequences.{sequence-from}

@@ -2,7 +2,7 @@
 
 ghost use Rattle.std.specs.Prelude.{IfOk};
 ghost use Rattle.td_cdr.specs.Text.{HasNoNul};
-ghost use Rattle.td_codes.specs.References.{reference};
+ghost use Rattle.td_typecode.specs.References.{reference};
 ghost use Rattle.td_trader.specs.Admitted.{AdmitsChange};
 
 use std::alloc::Global;
@@ -60,7 +60,7 @@ pub(crate) fn adds<T: Traders>(alloc: Global, traders: &mut T, at: usize, name: 
     ensures { T.same traders.old traders.new }
 {
     match added(alloc, name) {
-        Ok(change) => comes_to(traders, at, change, Told::Incarnation),
+        Ok(change) => comes_to(traders, at, change, Reported::Incarnation),
         Err(_) => false,
     }
 }
@@ -84,7 +84,7 @@ pub(crate) fn exports<T: Traders>(alloc: Global, traders: &mut T, at: usize) -> 
     ensures { T.same traders.old traders.new }
 {
     match exported(alloc) {
-        Ok(change) => comes_to(traders, at, change, Told::Id),
+        Ok(change) => comes_to(traders, at, change, Reported::Id),
         Err(_) => false,
     }
 }
@@ -118,28 +118,28 @@ fn reference(alloc: Global) -> Result<Ior, Memory>
 
 /// What a change came to: an id, an incarnation or another answer.
 #[derive(Clone, Copy, PartialEq, Eq)]
-enum Told {
+enum Reported {
     Id,
     Incarnation,
     Other,
 }
 
-fn told_by(answer: Result<Outcome, Memory>) -> Told {
-    let told = match &answer {
-        Ok(Outcome::Done(Reply::Id(_))) => Told::Id,
-        Ok(Outcome::Done(Reply::Incarnation(_))) => Told::Incarnation,
-        _ => Told::Other,
+fn content_by(answer: Result<Outcome, Memory>) -> Reported {
+    let content = match &answer {
+        Ok(Outcome::Done(Reply::Id(_))) => Reported::Id,
+        Ok(Outcome::Done(Reply::Incarnation(_))) => Reported::Incarnation,
+        _ => Reported::Other,
     };
     drop(answer);
-    told
+    content
 }
 
-fn comes_to<T: Traders>(traders: &mut T, at: usize, change: Change, wanted: Told) -> bool
+fn comes_to<T: Traders>(traders: &mut T, at: usize, change: Change, wanted: Reported) -> bool
     requires { AdmitsChange change }
     ensures { T.same traders.old traders.new }
 {
     if at < traders.count() {
-        return told_by(traders.change(at, change)) == wanted;
+        return content_by(traders.change(at, change)) == wanted;
     }
     drop(change);
     false

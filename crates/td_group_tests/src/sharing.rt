@@ -10,11 +10,11 @@ use std::sync::Wait;
 use std::test::Fail;
 use td_cdr::Memory;
 use td_cell::Pass;
-use td_group::{Group, Stall};
+use td_group::{Group, SharedTrader};
 use td_trader::{Solo, Traders};
 
 /// The traders of a group; nothing where closing is refused.
-pub(crate) fn closed(group: Group, passes: Vec<Pass<Stall>>) -> Option<Solo>
+pub(crate) fn closed(group: Group, passes: Vec<Pass<SharedTrader>>) -> Option<Solo>
     requires { AreOpening group.cells.items passes.items }
 {
     match group.close(passes) {
@@ -46,7 +46,7 @@ fn in_turns<R: Wait>(
     rt: &R,
     alloc: Global,
     group: &Group,
-    passes: &mut Vec<Pass<Stall>>,
+    passes: &mut Vec<Pass<SharedTrader>>,
 ) -> Result<bool, Memory>
     requires { AreOpening group.now.cells.items passes.old.items }
     ensures { AreOpening group.now.cells.items passes.new.items }
@@ -98,7 +98,7 @@ fn describes_later<R: Wait>(
     rt: &R,
     alloc: Global,
     group: &Group,
-    passes: &mut Vec<Pass<Stall>>,
+    passes: &mut Vec<Pass<SharedTrader>>,
 ) -> Result<bool, Memory>
     requires { AreOpening group.now.cells.items passes.old.items }
     ensures { AreOpening group.now.cells.items passes.new.items }
@@ -126,7 +126,7 @@ fn describes_in_third<R: Wait>(
     rt: &R,
     alloc: Global,
     group: &Group,
-    passes: &mut Vec<Pass<Stall>>,
+    passes: &mut Vec<Pass<SharedTrader>>,
 ) -> Result<bool, Memory>
     requires { AreOpening group.now.cells.items passes.old.items }
     ensures opening { AreOpening group.now.cells.items passes.new.items }
@@ -157,7 +157,7 @@ fn exports_and_describes<R: Wait>(
     rt: &R,
     alloc: Global,
     group: &Group,
-    passes: &mut Vec<Pass<Stall>>,
+    passes: &mut Vec<Pass<SharedTrader>>,
 ) -> Result<bool, Memory>
     requires { AreOpening group.now.cells.items passes.old.items }
     ensures { AreOpening group.now.cells.items passes.new.items }

@@ -14,7 +14,7 @@ use std::thread::Threads;
 use std::{mem, thread};
 use td_cdr::Memory;
 use td_cell::Pass;
-use td_group::{Group, GroupPass, Stall};
+use td_group::{Group, GroupPass, SharedTrader};
 use td_ops::Reply;
 use td_register::{Accepted, number_in};
 use td_trader::Solo;
@@ -27,7 +27,7 @@ fn begin_each<'a, R: Wait>(
     rt: &'a R,
     alloc: Global,
     group: &'a Group,
-    passes: &mut Vec<Pass<Stall>>,
+    passes: &mut Vec<Pass<SharedTrader>>,
     count: usize,
 ) -> Result<Vec<GroupPass<'a, R>>, Memory>
     requires { AreOpening group.now.cells.items passes.old.items }
@@ -56,7 +56,7 @@ fn export_each<'a, R: Wait>(alloc: Global, mut session: GroupPass<'a, R>) -> Gro
 /// Ends each session.
 fn take_in_each<'a, R: Wait>(
     group: &'a Group,
-    passes: &mut Vec<Pass<Stall>>,
+    passes: &mut Vec<Pass<SharedTrader>>,
     mut sessions: Vec<GroupPass<'a, R>>,
 )
     requires opening { AreOpening group.now.cells.items passes.old.items }
@@ -93,7 +93,7 @@ fn on_threads<R: Threads + Wait + Sync>(
     rt: &R,
     alloc: Global,
     group: &Group,
-    passes: &mut Vec<Pass<Stall>>,
+    passes: &mut Vec<Pass<SharedTrader>>,
 ) -> Result<(), Memory>
     requires { AreOpening group.now.cells.items passes.old.items }
     ensures { AreOpening group.now.cells.items passes.new.items }

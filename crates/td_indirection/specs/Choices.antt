@@ -6,7 +6,7 @@ use Rattle.td_cdr.specs.declared.order.Order.{Order}
 use Rattle.td_cdr.specs.Gap.{gap}
 use Rattle.td_cdr.specs.Place.{At}
 use Rattle.td_cdr.specs.Reading.{after}
-use Rattle.td_cdr.specs.Spelling.{Found, SpellsThen}
+use Rattle.td_cdr.specs.Spelling.{FoundSpelling, SpellsThen}
 use Rattle.td_cdr.specs.Format.{◌>>=◌, uncons}
 use Rattle.td_cdr.specs.Faults.{ThenFault, Refuses}
 use Rattle.td_cdr.specs.Joined.{Found-then, moved-place, after-after, bind_ok, done}
@@ -15,8 +15,8 @@ use Rattle.td_cdr.specs.Octets.{octets-front, octets-back}
 use Rattle.td_cdr.specs.Refused.{chain-refuses, moved-on}
 use Rattle.td_cdr.specs.RefusedFormats.{joins}
 use Rattle.td_cdr.specs.Sound.{Sound as Plain, constant}
-use Rattle.td_indirection.specs.States.{State, ulong_place, AreAlike, Agrees, IsRising}
-use Rattle.td_indirection.specs.Stateful.{StatefulFormat, TaggedFormat, Transfers, TransfersBehind, Sound, Arm}
+use Rattle.td_indirection.specs.States.{CodingState, ulong_place, AreAlike, IsTableOf, IsRising}
+use Rattle.td_indirection.specs.Stateful.{StatefulFormat, TaggedFormat, Transfers, TransfersBehind, Sound, TaggedArm}
 use Rattle.td_indirection.specs.Tables.{rising-on}
 use Rattle.td_indirection.specs.Pairs.{lift, ◌&◌}
 use Rattle.td_indirection.specs.Variants.{variant}
@@ -39,7 +39,7 @@ arm-transfers t graph first m s u order o place before p x next b octets sp agre
     let w = t.transfers graph first s u order o place p x next b octets sp agrees alike on short in
     record { spelled = w.spelled; alike = w.alike; good = w.good }
 
-abbrev pub arm : {F N X : Type 0} → Sound F N X → Arm F N X
+abbrev pub arm : {F N X : Type 0} → Sound F N X → TaggedArm F N X
 arm t = record {
   format = arm_format t.format;
   joins = λ tag. t.joins;
@@ -56,7 +56,7 @@ IsSized {K = K} tag = (k : K) (order : Order) (place : ℕ)
     → gap 4 place < length (tag.format.writes k order place)
 
 abbrev pub choice_format : {F N K X : Type 0} → Plain F K → (K → TaggedFormat F N X)
-    → (List N → State N → X → K) → StatefulFormat F N X
+    → (List N → CodingState N → X → K) → StatefulFormat F N X
 choice_format {K = K} tag arm tag_of = record {
   reads = λ s a. tag.format.reads a >>= λ k. (arm k.0).reads a s k.1;
   spells = λ s order place v b.
@@ -73,22 +73,24 @@ choice_format {K = K} tag arm tag_of = record {
 }
 
 -- each value tells the tag under which it is spelled
-abbrev pub IsTold : {F N K X : Type 0} → (K → Arm F N X) → (List N → State N → X → K) → Type 0
-IsTold {N = N} {K = K} {X = X} arms tag_of =
-    (k : K) (graph : List N) (m : ℕ) (s u : State N) (order : Order) (place : ℕ) (x : X)
-    (next : State N) (b : List ℕ)
-    → (arms k).format.spells m s order place (x, next) b → Agrees graph next (length s.table)
+abbrev pub HasTag : {F N K X : Type 0} → (K → TaggedArm F N X) → (List N → CodingState N → X → K)
+    → Type 0
+HasTag {N = N} {K = K} {X = X} arms tag_of =
+    (k : K) (graph : List N) (m : ℕ) (s u : CodingState N) (order : Order) (place : ℕ) (x : X)
+    (next : CodingState N) (b : List ℕ)
+    → (arms k).format.spells m s order place (x, next) b → IsTableOf graph next (length s.table)
     → AreAlike s u → k ≡ tag_of graph u x
 
-module _ {F N K X : Type 0} (tag : Plain F K) (sized : IsSized tag) (arms : K → Arm F N X)
-    (tag_of : List N → State N → X → K) (told : IsTold arms tag_of) where
+module _ {F N K X : Type 0} (tag : Plain F K) (sized : IsSized tag) (arms : K → TaggedArm F N X)
+    (tag_of : List N → CodingState N → X → K) (content : HasTag arms tag_of) where
   abbrev either : StatefulFormat F N X
   either = choice_format tag (λ k. (arms k).format) tag_of
 
-  pub choice-found : (s : State N) (a : At) (v : X × State N) (next : At) → a.origin ≤ a.place
-      → either.reads s a ≡ Ok (v, next) → Found (either.spells s) a v next
+  pub choice-found : (s : CodingState N) (a : At) (v : X × CodingState N) (next : At) → a.origin
+      ≤ a.place
+      → either.reads s a ≡ Ok (v, next) → FoundSpelling (either.spells s) a v next
   choice-found s a v next h e =
-      let made : (X × State N) × At = (v, next) in
+      let made : (X × CodingState N) × At = (v, next) in
       let k = bind_ok (tag.format.reads a) (λ k. (arms k.0).format.reads a s k.1) made e in
       let f = tag.lawful.found a k.0.0 k.0.1 h k.1 in
       let g =
@@ -105,7 +107,8 @@ module _ {F N K X : Type 0} (tag : Plain F K) (sized : IsSized tag) (arms : K �
         moved = whole.moved;
       }
 
-  pub choice-only : (s : State N) (a : At) (v : X × State N) (b rest : List ℕ) → a.origin ≤ a.place
+  pub choice-only : (s : CodingState N) (a : At) (v : X × CodingState N) (b rest : List ℕ)
+      → a.origin ≤ a.place
       → either.spells s a.order (a.place - a.origin) v b → a.rest ≡ b ++ rest
       → either.reads s a ≡ Ok (v, after (length b) a)
   choice-only s a v b rest h p e =
@@ -126,7 +129,7 @@ module _ {F N K X : Type 0} (tag : Plain F K) (sized : IsSized tag) (arms : K �
       rw (one, two, len)
       (ap (λ (x : At). done {F = F} (v, x)) (after-after (length q.front) (length q.back) a))
 
-  chosen-refuses : (s : State N) (a : At)
+  chosen-refuses : (s : CodingState N) (a : At)
       → Refuses (ThenFault tag.format.spells tag.faults (λ k. (arms k).format.faults a s))
       (λ x. tag.format.reads x >>= λ k. (arms k.0).format.reads a s k.1)
   chosen-refuses s a =
@@ -134,9 +137,9 @@ module _ {F N K X : Type 0} (tag : Plain F K) (sized : IsSized tag) (arms : K �
       (λ k. (arms k).format.reads a s) (joins tag.format tag.lawful) tag.refuses
       (λ k. (arms k).refuses a s)
 
-  pub choice-refuses : (s : State N) → Refuses (either.faults s) (either.reads s)
+  pub choice-refuses : (s : CodingState N) → Refuses (either.faults s) (either.reads s)
   choice-refuses s = record {
-    told = λ a f h e. (chosen-refuses s a).told a f h e;
+    content = λ a f h e. (chosen-refuses s a).content a f h e;
     only = λ a f h d. (chosen-refuses s a).only a f h d;
   }
 
@@ -144,7 +147,7 @@ module _ {F N K X : Type 0} (tag : Plain F K) (sized : IsSized tag) (arms : K �
   choice-transfers graph first s u order o place p x next b octets sp agrees alike good short =
       let k = tag_of graph u x in
       let is : sp.0 ≡ k =
-      told sp.0 graph (ulong_place s place) s u order (place + length sp.1.front)
+      content sp.0 graph (ulong_place s place) s u order (place + length sp.1.front)
       x next sp.1.back sp.1.then_spelled agrees alike in
       let q : SpellsThen tag.format.spells (λ k. (arms k).format.spells (ulong_place s place) s)
       order place (k, (x, next)) b =
@@ -201,8 +204,8 @@ abbrev pub array : {F N X : Type 0} → Sound F N X → ℕ → Sound F N (List 
 array t zero = lift (constant [])
 array t (suc n) = variant (λ p. p.0 ∷ p.1) uncons (λ x. refl) (t & array t n)
 
-pub array-count : {F N X : Type 0} (t : Sound F N X) (n : ℕ) (s : State N) (order : Order)
-    (place : ℕ) (xs : List X) (next : State N) (b : List ℕ)
+pub array-count : {F N X : Type 0} (t : Sound F N X) (n : ℕ) (s : CodingState N) (order : Order)
+    (place : ℕ) (xs : List X) (next : CodingState N) (b : List ℕ)
     → (array t n).format.spells s order place (xs, next) b → n ≡ length xs
 array-count {X = X} t zero s order place xs next b sp = ap (length {A = X}) sp.0.0
 array-count {X = X} t (suc n) s order place xs next b sp =

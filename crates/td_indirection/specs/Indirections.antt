@@ -17,7 +17,7 @@ use Rattle.td_cdr.specs.Joined.{bind_ok, done, ok_is}
 use Rattle.td_cdr.specs.Refused.{bind_err, read_again}
 use Rattle.td_cdr.specs.RefusedFormats.{joins}
 use Rattle.td_cdr.specs.Sound.{Sound as Plain}
-use Rattle.td_indirection.specs.States.{State, places, ulong_place, with_link, Grows, AreAlike, IsRising}
+use Rattle.td_indirection.specs.States.{CodingState, places, ulong_place, with_link, KeepsSlots, AreAlike, IsRising}
 use Rattle.td_indirection.specs.Stateful.{StatefulFormat, Transfers, Sound}
 use Rattle.td_indirection.specs.Tables.{alike-length, rising-on}
 
@@ -28,14 +28,15 @@ number_from k (x ∷ xs) distance place =
     cond (nat_eq (x + distance) place) (Some k) (number_from (k + 1) xs distance place)
 
 -- the node to which a long leads; the long is below 0, in two's complement
-abbrev pub target : {N : Type 0} → State N → ℕ → ℕ → Option ℕ
+abbrev pub target : {N : Type 0} → CodingState N → ℕ → ℕ → Option ℕ
 target s place n = number_from 0 (places s) (2 ^ 32 - n) (ulong_place s place)
 
 -- the long that leads to a node
-abbrev pub long_to : {N : Type 0} → State N → ℕ → ℕ → ℕ
+abbrev pub long_to : {N : Type 0} → CodingState N → ℕ → ℕ → ℕ
 long_to s place j = 2 ^ 32 - (ulong_place s place - slice_index (places s) j)
 
-abbrev pub node_or_fault : {F N : Type 0} → State N → F → At → Option ℕ → Read F (ℕ × State N)
+abbrev pub node_or_fault : {F N : Type 0} → CodingState N → F → At → Option ℕ
+    → Read F (ℕ × CodingState N)
 node_or_fault s bad next (Some j) = Ok ((j, with_link s), next)
 node_or_fault s bad next None = Err bad
 
@@ -53,19 +54,20 @@ indirection_format bad long = record {
   leaves = λ graph s j order place. with_link s;
 }
 
-target-ok : {F N : Type 0} (s : State N) (bad : F) (next : At) (o : Option ℕ) (v : ℕ × State N)
+target-ok : {F N : Type 0} (s : CodingState N) (bad : F) (next : At) (o : Option ℕ)
+    (v : ℕ × CodingState N)
     (end : At)
     → node_or_fault s bad next o ≡ Ok (v, end) → (o ≡ Some v.0) × (v.1 ≡ with_link s) × (next ≡ end)
 target-ok {F} {N} s bad next (Some j) v end e =
     let same : ((j, with_link s), next) ≡ (v, end) = ok_is {F = F} ((j, with_link s), next)
     (v, end) e in (
-      ap (λ (p : (ℕ × State N) × At). Some p.0.0) same,
-      sym (ap (λ (p : (ℕ × State N) × At). p.0.1) same),
-      ap (λ (p : (ℕ × State N) × At). p.1) same,
+      ap (λ (p : (ℕ × CodingState N) × At). Some p.0.0) same,
+      sym (ap (λ (p : (ℕ × CodingState N) × At). p.0.1) same),
+      ap (λ (p : (ℕ × CodingState N) × At). p.1) same,
     )
 target-ok s bad next None v end e = absurd (let n : ⊥ = cc (e) in n)
 
-target-err : {F N : Type 0} (s : State N) (bad f : F) (next : At) (o : Option ℕ)
+target-err : {F N : Type 0} (s : CodingState N) (bad f : F) (next : At) (o : Option ℕ)
     → node_or_fault s bad next o ≡ Err f → (o ≡ None) × (f ≡ bad)
 target-err s bad f next (Some j) e = absurd (let n : ⊥ = cc (e) in n)
 target-err s bad f next None e = (refl, cc)
@@ -97,7 +99,7 @@ number-finds k (x ∷ xs) d q (suc j) h e none =
     rw not_here (rest ∙ ap (λ (n : ℕ). Some n) (let s : k + 1 + j ≡ k + suc j = omega arith in s))
 
 -- the long that is written for a node leads to it
-pub long-leads : {N : Type 0} (first : ℕ) (s : State N) (p j : ℕ) → IsRising first s p
+pub long-leads : {N : Type 0} (first : ℕ) (s : CodingState N) (p j : ℕ) → IsRising first s p
     → j < length s.table → ulong_place s p < first + 2 ^ 32 → target s p (long_to s p j) ≡ Some j
 long-leads first s p j g h small =
     let low = g.below j h in
@@ -116,16 +118,16 @@ long-leads first s p j g h small =
 
 -- ---- the laws
 
-with_link-alike : {N : Type 0} (s u next : State N) → next ≡ with_link s → AreAlike s u
+with_link-alike : {N : Type 0} (s u next : CodingState N) → next ≡ with_link s → AreAlike s u
     → AreAlike next (with_link u)
 with_link-alike {N} s u next e a =
-    subst (λ (t : State N). AreAlike t (with_link u)) (sym e)
+    subst (λ (t : CodingState N). AreAlike t (with_link u)) (sym e)
     (record { nodes = a.nodes; linked = refl })
 
-pub with_link-grows : {N : Type 0} (s : State N) → Grows s (with_link s)
+pub with_link-grows : {N : Type 0} (s : CodingState N) → KeepsSlots s (with_link s)
 with_link-grows s = record { more = []; table = sym (append-nil s.table); base = refl }
 
-with_link-rising : {N : Type 0} (first : ℕ) (s : State N) (p : ℕ) → IsRising first s p
+with_link-rising : {N : Type 0} (first : ℕ) (s : CodingState N) (p : ℕ) → IsRising first s p
     → IsRising first (with_link s) p
 with_link-rising first s p g = record {
   rising = g.rising;
@@ -144,10 +146,10 @@ module _ {F N : Type 0} (bad : At → F) (long : Plain F ℕ) (is : IsLong long)
   abbrev link : StatefulFormat F N ℕ
   link = indirection_format bad long
 
-  pub indirection-joins : (s : State N) → Joins (link.spells s) (link.reads s)
+  pub indirection-joins : (s : CodingState N) → Joins (link.spells s) (link.reads s)
   indirection-joins s = record {
     found = λ a v next h e.
-        let made : (ℕ × State N) × At = (v, next) in
+        let made : (ℕ × CodingState N) × At = (v, next) in
         let x =
         bind_ok (long.format.reads a)
         (λ n. node_or_fault s (bad a) n.1 (target s (a.place - a.origin) n.0)) made e in
@@ -161,21 +163,23 @@ module _ {F N : Type 0} (bad : At → F) (long : Plain F ℕ) (is : IsLong long)
         };
     only = λ a v b rest h p e.
         let one = long.lawful.only a p.0 b rest h p.1 e in
-        let same : (v.0, with_link s) ≡ v = ap (λ (t : State N). (v.0, t)) (sym p.3) in
-        rw (one, p.2) (ap (λ (w : ℕ × State N). done {F = F} (w, after (length b) a)) same);
+        let same : (v.0, with_link s) ≡ v = ap (λ (t : CodingState N). (v.0, t)) (sym p.3) in
+        rw (one, p.2) (ap (λ (w : ℕ × CodingState N). done {F = F} (w, after (length b) a)) same);
   }
 
-  indirection-told : (s : State N) (a : At) (f : F) → a.origin ≤ a.place → link.reads s a ≡ Err f
+  indirection-content : (s : CodingState N) (a : At) (f : F) → a.origin ≤ a.place → link.reads s a
+      ≡ Err f
       → link.faults s a f
-  indirection-told s a f h e =
+  indirection-content s a f h e =
       elim (bind_err (long.format.reads a)
       (λ n. node_or_fault s (bad a) n.1 (target s (a.place - a.origin) n.0)) f e) [
-        | inl d ↦ PartialFault.unread (long.refuses.told a f h d)
+        | inl d ↦ PartialFault.unread (long.refuses.content a f h d)
         | inr d ↦ let u = target-err s (bad a) f d.0.1 (target s (a.place - a.origin) d.0.0) d.2 in
             PartialFault.unknown d.0.0 d.0.1 (long.lawful.found a d.0.0 d.0.1 h d.1) u.0 u.1
       ]
 
-  indirection-refused : (s : State N) (a : At) (f : F) → a.origin ≤ a.place → link.faults s a f
+  indirection-refused : (s : CodingState N) (a : At) (f : F) → a.origin ≤ a.place
+      → link.faults s a f
       → link.reads s a ≡ Err f
   indirection-refused s a f h (PartialFault.unread d) = rw (long.refuses.only a f h d) refl
   indirection-refused s a f h (PartialFault.unknown n next found unknown fault) =
@@ -183,8 +187,8 @@ module _ {F N : Type 0} (bad : At → F) (long : Plain F ℕ) (is : IsLong long)
       a n next h found in
       rw (one, unknown, fault) refl
 
-  pub indirection-refuses : (s : State N) → Refuses (link.faults s) (link.reads s)
-  indirection-refuses s = record { told = indirection-told s; only = indirection-refused s }
+  pub indirection-refuses : (s : CodingState N) → Refuses (link.faults s) (link.reads s)
+  indirection-refuses s = record { content = indirection-content s; only = indirection-refused s }
 
   pub indirection-transfers : Transfers link
   indirection-transfers graph first s u order o place p j next b octets sp agrees alike good short =
@@ -217,7 +221,7 @@ module _ {F N : Type 0} (bad : At → F) (long : Plain F ℕ) (is : IsLong long)
     format = indirection_format bad long;
     joins = indirection-joins;
     refuses = indirection-refuses;
-    grows = λ s order place j next b sp. subst (λ (t : State N). Grows s t) (sym sp.3)
+    grows = λ s order place j next b sp. subst (λ (t : CodingState N). KeepsSlots s t) (sym sp.3)
         (with_link-grows s);
     transfers = indirection-transfers;
   }

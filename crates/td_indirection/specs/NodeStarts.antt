@@ -8,13 +8,14 @@ use Rattle.std.proofs.lemmas.List.{length_push, map-append}
 use Rattle.td_cdr.specs.declared.order.Order.{Order}
 use Rattle.td_cdr.specs.Place.{At}
 use Rattle.td_cdr.specs.Reading.{after}
-use Rattle.td_cdr.specs.Spelling.{Found, Joins}
+use Rattle.td_cdr.specs.Spelling.{FoundSpelling, Joins}
 use Rattle.td_cdr.specs.Format.{◌>>=◌, none_or, nth}
 use Rattle.td_cdr.specs.Faults.{Refuses}
 use Rattle.td_cdr.specs.Joined.{bind_ok, done, ok_is}
 use Rattle.td_cdr.specs.Refused.{mapped-refuses}
-use Rattle.td_indirection.specs.States.{Slot, State, nodes, ulong_place, slot, with_blank, with_node, Grows, AreAlike, Agrees}
-use Rattle.td_indirection.specs.Stateful.{StatefulFormat, TaggedFormat, TransfersBehind, Sound, Arm, tag_place}
+use Rattle.td_indirection.specs.States.{Slot, CodingState, nodes, ulong_place, slot, with_blank, with_node, KeepsSlots}
+use Rattle.td_indirection.specs.States.{AreAlike, IsTableOf}
+use Rattle.td_indirection.specs.Stateful.{StatefulFormat, TaggedFormat, TransfersBehind, Sound, TaggedArm, tag_place}
 use Rattle.td_indirection.specs.Variants.{leaves_or}
 use Rattle.td_indirection.specs.Tables.{nth-seam, nth-put-behind, nodes-length, alike-length, length-put, with_node-table}
 use Rattle.td_indirection.specs.Tables.{with_node-alike, with_node-grows, with_node-rising, with_blank-alike, with_blank-rising}
@@ -35,7 +36,7 @@ node_format {N = N} most full blank t = record {
       >>= λ v. Ok ((length s.table, with_node v.0.1 (length s.table) v.0.0), v.1))
       (Err (full tag));
   spells = λ m s order place v b.
-      (n : N) × (end : State N) × (length s.table < most) × (v.0 ≡ length s.table)
+      (n : N) × (end : CodingState N) × (length s.table < most) × (v.0 ≡ length s.table)
       × t.spells (with_blank blank m s) order place (n, end) b
       × (v.1 ≡ with_node end (length s.table) n);
   faults = λ tag s a f.
@@ -61,13 +62,13 @@ module _ {F N : Type 0} (most : ℕ) (full : At → F) (blank : N) (t : Sound F 
   abbrev one : TaggedFormat F N ℕ
   one = node_format most full blank t.format
 
-  pub node-joins : (tag : At) (s : State N)
+  pub node-joins : (tag : At) (s : CodingState N)
       → Joins (one.spells (tag_place s tag) s) (one.reads tag s)
   node-joins tag s = record {
     found = λ a v next h e.
         let inner = with_blank blank (tag_place s tag) s in
         let count = length s.table in
-        let made : (ℕ × State N) × At = (v, next) in
+        let made : (ℕ × CodingState N) × At = (v, next) in
         let r =
         room_ok (ltb count most)
         (t.format.reads inner a >>= λ v. Ok ((count, with_node v.0.1 count v.0.0), v.1))
@@ -77,7 +78,8 @@ module _ {F N : Type 0} (most : ℕ) (full : At → F) (blank : N) (t : Sound F 
         let same : ((count, with_node x.0.0.1 count x.0.0.0), x.0.1) ≡ made =
         ok_is {F = F} ((count, with_node x.0.0.1 count x.0.0.0), x.0.1) made x.2 in
         let f = (t.joins inner).found a x.0.0 x.0.1 h x.1 in
-        subst (λ (p : (ℕ × State N) × At). Found (one.spells (tag_place s tag) s) a p.0 p.1) same
+        subst (λ (p : (ℕ × CodingState N) × At). FoundSpelling (one.spells (tag_place s tag) s) a
+        p.0 p.1) same
         (record {
           bytes = f.bytes;
           spelled = (x.0.0.0, x.0.0.1, ltb-true count most r.0, refl, f.spelled, refl);
@@ -90,12 +92,12 @@ module _ {F N : Type 0} (most : ℕ) (full : At → F) (blank : N) (t : Sound F 
         let one = (t.joins inner).only a (p.0, p.1) b rest h p.4 e in
         let same : (length s.table, with_node p.1 (length s.table) p.0) ≡ v =
         ap (λ (n : ℕ). (n, with_node p.1 (length s.table) p.0)) (sym p.3)
-        ∙ ap (λ (z : State N). (v.0, z)) (sym p.5) in
-        rw (room, one) (ap (λ (w : ℕ × State N). done {F = F} (w, after (length b) a)) same);
+        ∙ ap (λ (z : CodingState N). (v.0, z)) (sym p.5) in
+        rw (room, one) (ap (λ (w : ℕ × CodingState N). done {F = F} (w, after (length b) a)) same);
   }
 
-  behind : (tag : At) (s : State N)
-      → Refuses {Y = ℕ × State N} (t.format.faults (with_blank blank (tag_place s tag) s))
+  behind : (tag : At) (s : CodingState N)
+      → Refuses {Y = ℕ × CodingState N} (t.format.faults (with_blank blank (tag_place s tag) s))
       (λ a. t.format.reads (with_blank blank (tag_place s tag) s) a
       >>= λ v. Ok ((length s.table, with_node v.0.1 (length s.table) v.0.0), v.1))
   behind tag s =
@@ -104,19 +106,20 @@ module _ {F N : Type 0} (most : ℕ) (full : At → F) (blank : N) (t : Sound F 
       (λ v. ((length s.table, with_node v.0.1 (length s.table) v.0.0), v.1))
       (t.refuses (with_blank blank (tag_place s tag) s))
 
-  node-told : (tag : At) (s : State N) (a : At) (f : F) → a.origin ≤ a.place → one.reads tag s a
+  node-content : (tag : At) (s : CodingState N) (a : At) (f : F) → a.origin ≤ a.place
+      → one.reads tag s a
       ≡ Err f → one.faults tag s a f
-  node-told tag s a f h e =
+  node-content tag s a f h e =
       let inner = with_blank blank (tag_place s tag) s in
       let count = length s.table in
       elim (room_err (ltb count most)
       (t.format.reads inner a >>= λ v. Ok ((count, with_node v.0.1 count v.0.0), v.1))
       (full tag) f e) [
-        | inl r ↦ NodeFault.unread (ltb-true count most r.0) ((behind tag s).told a f h r.1)
+        | inl r ↦ NodeFault.unread (ltb-true count most r.0) ((behind tag s).content a f h r.1)
         | inr r ↦ NodeFault.crowded (ltb-false count most r.0) r.1
       ]
 
-  node-refused : (tag : At) (s : State N) (a : At) (f : F) → a.origin ≤ a.place
+  node-refused : (tag : At) (s : CodingState N) (a : At) (f : F) → a.origin ≤ a.place
       → one.faults tag s a f → one.reads tag s a ≡ Err f
   node-refused tag s a f h (NodeFault.crowded many is) =
       let none : ltb (length s.table) most ≡ false = le-ltb (length s.table) most many in
@@ -125,21 +128,22 @@ module _ {F N : Type 0} (most : ℕ) (full : At → F) (blank : N) (t : Sound F 
       let room : ltb (length s.table) most ≡ true = lt-ltb (length s.table) most few in
       rw room ((behind tag s).only a f h d)
 
-  pub node-refuses : (tag : At) (s : State N) → Refuses (one.faults tag s) (one.reads tag s)
-  node-refuses tag s = record { told = node-told tag s; only = node-refused tag s }
+  pub node-refuses : (tag : At) (s : CodingState N) → Refuses (one.faults tag s) (one.reads tag s)
+  node-refuses tag s = record { content = node-content tag s; only = node-refused tag s }
 
-  pub node-grows : (m : ℕ) (s : State N) (order : Order) (place : ℕ) (j : ℕ) (next : State N)
+  pub node-grows : (m : ℕ) (s : CodingState N) (order : Order) (place : ℕ) (j : ℕ)
+      (next : CodingState N)
       (b : List ℕ)
-      → one.spells m s order place (j, next) b → Grows s next
+      → one.spells m s order place (j, next) b → KeepsSlots s next
   node-grows m s order place j next b sp =
-      subst (λ (z : State N). Grows s z) (sym sp.5)
+      subst (λ (z : CodingState N). KeepsSlots s z) (sym sp.5)
       (with_node-grows s sp.1 m blank sp.0
       (t.grows (with_blank blank m s) order place sp.0 sp.1 b sp.4))
 
   -- the graph has the node that was spelled
-  pub node-known : (graph : List N) (m : ℕ) (s : State N) (order : Order) (place : ℕ) (j : ℕ)
-      (next : State N) (b : List ℕ) (sp : one.spells m s order place (j, next) b)
-      → Agrees graph next (length s.table) → nth graph j ≡ Some sp.0
+  pub node-known : (graph : List N) (m : ℕ) (s : CodingState N) (order : Order) (place : ℕ) (j : ℕ)
+      (next : CodingState N) (b : List ℕ) (sp : one.spells m s order place (j, next) b)
+      → IsTableOf graph next (length s.table) → nth graph j ≡ Some sp.0
   node-known graph m s order place j next b sp agrees =
       let n = sp.0 in
       let count = length s.table in
@@ -148,7 +152,8 @@ module _ {F N : Type 0} (most : ℕ) (full : At → F) (blank : N) (t : Sound F 
       let all : end.table ≡ s.table ++ slot m n ∷ g.more = with_node-table s sp.1 m blank n g in
       let long : length end.table ≡ count + suc (length g.more) =
       ap (length {A = Slot N}) all ∙ length-append s.table (slot m n ∷ g.more) in
-      let same : length next.table ≡ length end.table = ap (λ (z : State N). length z.table) sp.5 in
+      let same : length next.table ≡ length end.table = ap (λ (z : CodingState N). length z.table)
+      sp.5 in
       let its-nodes : nodes end ≡ nodes s ++ n ∷ map (λ x. x.node) g.more =
       ap (λ (xs : List (Slot N)). map (λ x. x.node) xs) all
       ∙ map-append (λ (x : Slot N). x.node) s.table (slot m n ∷ g.more) in
@@ -157,22 +162,24 @@ module _ {F N : Type 0} (most : ℕ) (full : At → F) (blank : N) (t : Sound F 
       (nth-seam (nodes s) n (map (λ x. x.node) g.more)) in
       ap (nth graph) sp.3
       ∙ agrees.each count (omega arith) (omega (arith, long, same))
-      ∙ ap (λ (z : State N). nth (nodes z) count) sp.5
+      ∙ ap (λ (z : CodingState N). nth (nodes z) count) sp.5
       ∙ ap (λ (xs : List N). nth xs count) its-nodes
       ∙ seam
 
   -- and those that stand in it
-  node-agrees : (graph : List N) (m : ℕ) (s : State N) (order : Order) (place : ℕ) (j : ℕ)
-      (next : State N) (b : List ℕ) (sp : one.spells m s order place (j, next) b)
-      → Agrees graph next (length s.table) → Agrees graph sp.1 (length (with_blank blank m s).table)
+  node-agrees : (graph : List N) (m : ℕ) (s : CodingState N) (order : Order) (place : ℕ) (j : ℕ)
+      (next : CodingState N) (b : List ℕ) (sp : one.spells m s order place (j, next) b)
+      → IsTableOf graph next (length s.table)
+      → IsTableOf graph sp.1 (length (with_blank blank m s).table)
   node-agrees graph m s order place j next b sp agrees = record {
     each = λ i h l.
         let more : length (with_blank blank m s).table ≡ length s.table + 1 =
         length_push s.table (slot m blank) in
         let same : length next.table ≡ length sp.1.table =
-        ap (λ (z : State N). length z.table) sp.5 ∙ length-put sp.1.table (length s.table) sp.0 in
+        ap (λ (z : CodingState N). length z.table) sp.5 ∙ length-put sp.1.table
+        (length s.table) sp.0 in
         agrees.each i (omega (arith, h, more)) (omega (arith, l, same))
-        ∙ ap (λ (z : State N). nth (nodes z) i) sp.5
+        ∙ ap (λ (z : CodingState N). nth (nodes z) i) sp.5
         ∙ nth-put-behind sp.1.table (length s.table) i sp.0 (omega (arith, h, more));
   }
 
@@ -201,7 +208,7 @@ module _ {F N : Type 0} (most : ℕ) (full : At → F) (blank : N) (t : Sound F 
       (length u.table) n) =
       subst (λ (k : ℕ). AreAlike next (with_node (t.format.leaves graph inner n o p) k n)) same
       (subst
-      (λ (z : State N). AreAlike z (with_node (t.format.leaves graph inner n o p)
+      (λ (z : CodingState N). AreAlike z (with_node (t.format.leaves graph inner n o p)
       (length s.table) n)) (sym sp.5)
       (with_node-alike sp.1 (t.format.leaves graph inner n o p) (length s.table) n w.alike)) in
       record {
@@ -222,7 +229,7 @@ module _ {F N : Type 0} (most : ℕ) (full : At → F) (blank : N) (t : Sound F 
             (p + length (t.format.writes graph inner n o p)) (length u.table) n w.good);
       }
 
-  abbrev pub node : Arm F N ℕ
+  abbrev pub node : TaggedArm F N ℕ
   node = record {
     format = node_format most full blank t.format;
     joins = node-joins;

@@ -5,7 +5,7 @@ use Rattle.std.proofs.lemmas.List.{drop_at}
 use Rattle.td_cdr.specs.declared.order.Order.{Order}
 use Rattle.td_cdr.specs.Place.{At}
 use Rattle.td_cdr.specs.Reading.{after}
-use Rattle.td_cdr.specs.Spelling.{Found, Joins, SpellsThen}
+use Rattle.td_cdr.specs.Spelling.{FoundSpelling, Joins, SpellsThen}
 use Rattle.td_cdr.specs.Format.{◌>>=◌}
 use Rattle.td_cdr.specs.Faults.{ThenFault, Refuses}
 use Rattle.td_cdr.specs.Joined.{Found-then, moved-place, after-after, bind_ok, done, ok_is}
@@ -13,7 +13,7 @@ use Rattle.td_cdr.specs.Lawful.{AreOctets}
 use Rattle.td_cdr.specs.Octets.{octets-front, octets-back}
 use Rattle.td_cdr.specs.Refused.{mapped-refuses, chain-refuses, moved-on}
 use Rattle.td_cdr.specs.Sound.{Sound as Plain}
-use Rattle.td_indirection.specs.States.{State, Grows, AreAlike, IsRising}
+use Rattle.td_indirection.specs.States.{CodingState, KeepsSlots, AreAlike, IsRising}
 use Rattle.td_indirection.specs.Stateful.{StatefulFormat, Transfers, Sound}
 use Rattle.td_indirection.specs.Tables.{stays, grows-on, grows-length, agrees-before, agrees-from, rising-on}
 
@@ -28,20 +28,21 @@ lift_format {N = N} {X = X} g = record {
   leaves = λ graph s x order place. s;
 }
 
-pub lift-joins : {F N X : Type 0} (g : Plain F X) (s : State N)
+pub lift-joins : {F N X : Type 0} (g : Plain F X) (s : CodingState N)
     → Joins ((lift_format g).spells s) ((lift_format g).reads s)
 lift-joins {F} {N} {X} g s = record {
   found = λ a v next h e.
-      let made : (X × State N) × At = (v, next) in
+      let made : (X × CodingState N) × At = (v, next) in
       let x = bind_ok (g.format.reads a) (λ x. Ok ((x.0, s), x.1)) made e in
       let same : ((x.0.0, s), x.0.1) ≡ made = ok_is {F = F} ((x.0.0, s), x.0.1) made x.2 in
       let f = g.lawful.found a x.0.0 x.0.1 h x.1 in
-      subst (λ (p : (X × State N) × At). Found ((lift_format g).spells s) a p.0 p.1) same
+      subst (λ (p : (X × CodingState N) × At). FoundSpelling ((lift_format g).spells s) a p.0 p.1)
+      same
       (record { bytes = f.bytes; spelled = (f.spelled, refl); parts = f.parts; moved = f.moved });
   only = λ a v b rest h p e.
       let one = g.lawful.only a v.0 b rest h p.0 e in
-      let same : (v.0, s) ≡ v = ap (λ (t : State N). (v.0, t)) (sym p.1) in
-      rw one (ap (λ (w : X × State N). done {F = F} (w, after (length b) a)) same);
+      let same : (v.0, s) ≡ v = ap (λ (t : CodingState N). (v.0, t)) (sym p.1) in
+      rw one (ap (λ (w : X × CodingState N). done {F = F} (w, after (length b) a)) same);
 }
 
 pub lift-transfers : {F N X : Type 0} (g : Plain F X) → Transfers {N = N} (lift_format g)
@@ -54,7 +55,7 @@ lift-transfers {N = N} g graph first s u order o place p x next b octets sp agre
             (omega (arith, short, reached)),
         refl,
       );
-      alike = subst (λ (t : State N). AreAlike t u) (sym sp.1) alike;
+      alike = subst (λ (t : CodingState N). AreAlike t u) (sym sp.1) alike;
       good = rising-on first u p (p + length (g.format.writes x o p)) (omega arith) good;
     }
 
@@ -63,7 +64,8 @@ lift g = record {
   format = lift_format g;
   joins = lift-joins g;
   refuses = λ s. mapped-refuses g.faults g.format.reads (λ x. ((x.0, s), x.1)) g.refuses;
-  grows = λ s order place x next b sp. subst (λ (t : State _). Grows s t) (sym sp.1) (stays s);
+  grows = λ s order place x next b sp. subst (λ (t : CodingState _). KeepsSlots s t) (sym sp.1)
+      (stays s);
   transfers = lift-transfers g;
 }
 
@@ -75,8 +77,8 @@ pair_format {N = N} {X = X} {Y = Y} t u = record {
   reads = λ s a. t.reads s a >>= λ x. (u x.0.0).reads x.0.1 x.1 >>= λ y.
       Ok (((x.0.0, y.0.0), y.0.1), y.1);
   spells = λ s order place v b.
-      (mid : State N)
-      × SpellsThen (t.spells s) (λ (x : X × State N). (u x.0).spells x.1) order place
+      (mid : CodingState N)
+      × SpellsThen (t.spells s) (λ (x : X × CodingState N). (u x.0).spells x.1) order place
       ((v.0.0, mid), (v.0.1, v.1)) b;
   faults = λ s. ThenFault (t.spells s) (t.faults s) (λ x. (u x.0).faults x.1);
   writes = λ graph s x order place. t.writes graph s x.0 order place
@@ -91,10 +93,11 @@ module _ {F N X Y : Type 0} (t : Sound F N X) (u : X → Sound F N Y) where
   abbrev both : StatefulFormat F N (X × Y)
   both = pair_format t.format (λ x. (u x).format)
 
-  pub pair-found : (s : State N) (a : At) (v : (X × Y) × State N) (next : At) → a.origin ≤ a.place
-      → both.reads s a ≡ Ok (v, next) → Found (both.spells s) a v next
+  pub pair-found : (s : CodingState N) (a : At) (v : (X × Y) × CodingState N) (next : At) → a.origin
+      ≤ a.place
+      → both.reads s a ≡ Ok (v, next) → FoundSpelling (both.spells s) a v next
   pair-found s a v next h e =
-      let made : ((X × Y) × State N) × At = (v, next) in
+      let made : ((X × Y) × CodingState N) × At = (v, next) in
       let x =
       bind_ok (t.format.reads s a)
       (λ x. (u x.0.0).format.reads x.0.1 x.1 >>= λ y. Ok (((x.0.0, y.0.0), y.0.1), y.1)) made e in
@@ -107,10 +110,10 @@ module _ {F N X Y : Type 0} (t : Sound F N X) (u : X → Sound F N Y) where
       ((u x.0.0.0).joins x.0.0.1).found x.0.1 y.0.0 y.0.1
       (moved-on (t.format.spells s) a x.0.0 x.0.1 h f) y.1 in
       let whole =
-      Found-then (t.format.spells s) (λ (z : X × State N). (u z.0).format.spells z.1)
+      Found-then (t.format.spells s) (λ (z : X × CodingState N). (u z.0).format.spells z.1)
       a x.0.1 y.0.1 x.0.0 y.0.0 h f g
       in
-      subst (λ (p : ((X × Y) × State N) × At). Found (both.spells s) a p.0 p.1) same
+      subst (λ (p : ((X × Y) × CodingState N) × At). FoundSpelling (both.spells s) a p.0 p.1) same
       (record {
         bytes = whole.bytes;
         spelled = (x.0.0.1, whole.spelled);
@@ -118,7 +121,7 @@ module _ {F N X Y : Type 0} (t : Sound F N X) (u : X → Sound F N Y) where
         moved = whole.moved;
       })
 
-  pub pair-only : (s : State N) (a : At) (v : (X × Y) × State N) (b rest : List ℕ)
+  pub pair-only : (s : CodingState N) (a : At) (v : (X × Y) × CodingState N) (b rest : List ℕ)
       → a.origin ≤ a.place → both.spells s a.order (a.place - a.origin) v b → a.rest ≡ b ++ rest
       → both.reads s a ≡ Ok (v, after (length b) a)
   pair-only s a v b rest h p e =
@@ -139,7 +142,7 @@ module _ {F N X Y : Type 0} (t : Sound F N X) (u : X → Sound F N Y) where
       rw (one, two, len)
       (ap (λ (x : At). done {F = F} (v, x)) (after-after (length q.front) (length q.back) a))
 
-  pub pair-refuses : (s : State N) → Refuses (both.faults s) (both.reads s)
+  pub pair-refuses : (s : CodingState N) → Refuses (both.faults s) (both.reads s)
   pair-refuses s =
       chain-refuses (t.format.spells s) (t.format.faults s) (λ x. (u x.0).format.faults x.1)
       (t.format.reads s) (λ x a. (u x.0).format.reads x.1 a >>= λ y.
@@ -147,9 +150,10 @@ module _ {F N X Y : Type 0} (t : Sound F N X) (u : X → Sound F N Y) where
       (λ x. mapped-refuses ((u x.0).format.faults x.1) ((u x.0).format.reads x.1)
       (λ y. (((x.0, y.0.0), y.0.1), y.1)) ((u x.0).refuses x.1))
 
-  pub pair-grows : (s : State N) (order : Order) (place : ℕ) (x : X × Y) (next : State N)
+  pub pair-grows : (s : CodingState N) (order : Order) (place : ℕ) (x : X × Y)
+      (next : CodingState N)
       (b : List ℕ)
-      → both.spells s order place (x, next) b → Grows s next
+      → both.spells s order place (x, next) b → KeepsSlots s next
   pair-grows s order place x next b sp =
       let q = sp.1 in
       grows-on s sp.0 next (t.grows s order place x.0 sp.0 q.front q.spelled)

@@ -6,8 +6,9 @@ use Rattle.std.proofs.lemmas.Bool.{cases_lt}
 use Rattle.std.proofs.lemmas.List.{append-nil, map-append, length-map, length_push, get_or_append_left, get_or_push}
 use Rattle.td_cdr.specs.Gap.{gap}
 use Rattle.td_cdr.specs.Format.{nth}
-use Rattle.td_indirection.specs.States.{Slot, State, nodes, places, ulong_place, slot, with_blank, put, with_node, Grows, AreAlike}
-use Rattle.td_indirection.specs.States.{Agrees, IsRising}
+use Rattle.td_indirection.specs.States.{Slot, CodingState, nodes, places, ulong_place, slot, with_blank, put, with_node}
+use Rattle.td_indirection.specs.States.{KeepsSlots, AreAlike}
+use Rattle.td_indirection.specs.States.{IsTableOf, IsRising}
 
 pub nth-left : {Y : Type 0} (xs ys : List Y) (i : ℕ) → i < length xs → nth (xs ++ ys) i ≡ nth xs i
 nth-left [] ys i h = absurd (omega (arith, h))
@@ -21,10 +22,11 @@ nth-seam (x ∷ xs) y ys = nth-seam xs y ys
 
 -- ---- growing
 
-pub stays : {N : Type 0} (s : State N) → Grows s s
+pub stays : {N : Type 0} (s : CodingState N) → KeepsSlots s s
 stays s = record { more = []; table = sym (append-nil s.table); base = refl }
 
-pub grows-on : {N : Type 0} (s mid next : State N) → Grows s mid → Grows mid next → Grows s next
+pub grows-on : {N : Type 0} (s mid next : CodingState N) → KeepsSlots s mid → KeepsSlots mid next
+    → KeepsSlots s next
 grows-on {N} s mid next g h = record {
   more = g.more ++ h.more;
   table = h.table ∙ ap (λ (t : List (Slot N)). t ++ h.more) g.table
@@ -32,21 +34,22 @@ grows-on {N} s mid next g h = record {
   base = h.base ∙ g.base;
 }
 
-pub grows-length : {N : Type 0} (s next : State N) (g : Grows s next)
+pub grows-length : {N : Type 0} (s next : CodingState N) (g : KeepsSlots s next)
     → length next.table ≡ length s.table + length g.more
 grows-length {N} s next g = ap (length {A = Slot N}) g.table ∙ length-append s.table g.more
 
-pub nodes-length : {N : Type 0} (s : State N) → length (nodes s) ≡ length s.table
+pub nodes-length : {N : Type 0} (s : CodingState N) → length (nodes s) ≡ length s.table
 nodes-length s = length-map s.table (λ x. x.node)
 
-pub grows-nodes : {N : Type 0} (s next : State N) (g : Grows s next)
+pub grows-nodes : {N : Type 0} (s next : CodingState N) (g : KeepsSlots s next)
     → nodes next ≡ nodes s ++ map (λ x. x.node) g.more
 grows-nodes {N} s next g =
     ap (λ (t : List (Slot N)). map (λ x. x.node) t) g.table
     ∙ map-append (λ (x : Slot N). x.node) s.table g.more
 
-pub agrees-before : {N : Type 0} (graph : List N) (mid next : State N) (from : ℕ) → Grows mid next
-    → Agrees graph next from → Agrees graph mid from
+pub agrees-before : {N : Type 0} (graph : List N) (mid next : CodingState N) (from : ℕ)
+    → KeepsSlots mid next
+    → IsTableOf graph next from → IsTableOf graph mid from
 agrees-before graph mid next from g a = record {
   each = λ i h l.
       let len = grows-length mid next g in
@@ -56,14 +59,15 @@ agrees-before graph mid next from g a = record {
       ∙ nth-left (nodes mid) (map (λ x. x.node) g.more) i (omega (arith, l, shorter));
 }
 
-pub agrees-from : {N : Type 0} (graph : List N) (next : State N) (from on : ℕ) → from ≤ on
-    → Agrees graph next from → Agrees graph next on
+pub agrees-from : {N : Type 0} (graph : List N) (next : CodingState N) (from on : ℕ) → from ≤ on
+    → IsTableOf graph next from → IsTableOf graph next on
 agrees-from graph next from on h a = record { each = λ i l m. a.each i (omega (arith, h, l)) m }
 
-pub alike-length : {N : Type 0} (s u : State N) → AreAlike s u → length s.table ≡ length u.table
+pub alike-length : {N : Type 0} (s u : CodingState N) → AreAlike s u → length s.table
+    ≡ length u.table
 alike-length {N} s u a = sym (nodes-length s) ∙ ap (length {A = N}) a.nodes ∙ nodes-length u
 
-pub rising-on : {N : Type 0} (first : ℕ) (s : State N) (p q : ℕ) → p ≤ q → IsRising first s p
+pub rising-on : {N : Type 0} (first : ℕ) (s : CodingState N) (p q : ℕ) → p ≤ q → IsRising first s p
     → IsRising first s q
 rising-on first s p q h g = record {
   rising = g.rising;
@@ -108,7 +112,7 @@ pub put-seam : {N : Type 0} (xs : List (Slot N)) (y : Slot N) (ys : List (Slot N
 put-seam [] y ys v = refl
 put-seam {N} (x ∷ xs) y ys v = ap (λ (zs : List (Slot N)). x ∷ zs) (put-seam xs y ys v)
 
-pub with_node-alike : {N : Type 0} (s u : State N) (n : ℕ) (v : N) → AreAlike s u
+pub with_node-alike : {N : Type 0} (s u : CodingState N) (n : ℕ) (v : N) → AreAlike s u
     → AreAlike (with_node s n v) (with_node u n v)
 with_node-alike {N} s u n v a = record {
   nodes =
@@ -118,23 +122,23 @@ with_node-alike {N} s u n v a = record {
 }
 
 -- a node that was begun is known
-pub with_node-table : {N : Type 0} (s end : State N) (place : ℕ) (blank v : N)
-    (g : Grows (with_blank blank place s) end)
+pub with_node-table : {N : Type 0} (s end : CodingState N) (place : ℕ) (blank v : N)
+    (g : KeepsSlots (with_blank blank place s) end)
     → (with_node end (length s.table) v).table ≡ s.table ++ slot place v ∷ g.more
 with_node-table {N} s end place blank v g =
     ap (λ (t : List (Slot N)). put t (length s.table) v)
     (g.table ∙ append_assoc s.table (slot place blank ∷ []) g.more)
     ∙ put-seam s.table (slot place blank) g.more v
 
-pub with_node-grows : {N : Type 0} (s end : State N) (place : ℕ) (blank v : N)
-    → Grows (with_blank blank place s) end → Grows s (with_node end (length s.table) v)
+pub with_node-grows : {N : Type 0} (s end : CodingState N) (place : ℕ) (blank v : N)
+    → KeepsSlots (with_blank blank place s) end → KeepsSlots s (with_node end (length s.table) v)
 with_node-grows s end place blank v g = record {
   more = slot place v ∷ g.more;
   table = with_node-table s end place blank v g;
   base = g.base;
 }
 
-pub with_blank-alike : {N : Type 0} (blank : N) (p q : ℕ) (s u : State N) → AreAlike s u
+pub with_blank-alike : {N : Type 0} (blank : N) (p q : ℕ) (s u : CodingState N) → AreAlike s u
     → AreAlike (with_blank blank p s) (with_blank blank q u)
 with_blank-alike {N} blank p q s u a = record {
   nodes =
@@ -144,7 +148,7 @@ with_blank-alike {N} blank p q s u a = record {
   linked = a.linked;
 }
 
-pub with_blank-rising : {N : Type 0} (first : ℕ) (blank : N) (s : State N) (before p : ℕ)
+pub with_blank-rising : {N : Type 0} (first : ℕ) (blank : N) (s : CodingState N) (before p : ℕ)
     → IsRising first s before
     → before + gap 4 before < p → IsRising first (with_blank blank (ulong_place s before) s) p
 with_blank-rising {N} first blank s before p g far =
@@ -185,7 +189,8 @@ with_blank-rising {N} first blank s before p g far =
       reached = omega (arith, reached, far);
     }
 
-pub with_node-rising : {N : Type 0} (first : ℕ) (s : State N) (p n : ℕ) (v : N) → IsRising first s p
+pub with_node-rising : {N : Type 0} (first : ℕ) (s : CodingState N) (p n : ℕ) (v : N)
+    → IsRising first s p
     → IsRising first (with_node s n v) p
 with_node-rising first s p n v g =
     let size : length (put s.table n v) ≡ length s.table = length-put s.table n v in

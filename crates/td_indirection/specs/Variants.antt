@@ -4,18 +4,19 @@ use Rattle.std.proofs.Common.{Ok, Err, refl, ap, subst, inl, inr}
 use Rattle.std.specs.Prelude.{if◌then◌else◌, Option, Some, None}
 use Rattle.td_cdr.specs.Place.{At}
 use Rattle.td_cdr.specs.Reading.{after}
-use Rattle.td_cdr.specs.Spelling.{Found, Joins}
+use Rattle.td_cdr.specs.Spelling.{FoundSpelling, Joins}
 use Rattle.td_cdr.specs.Format.{◌>>=◌, none_or}
 use Rattle.td_cdr.specs.FormatFaults.{RestrictionFault}
 use Rattle.td_cdr.specs.Faults.{Refuses}
 use Rattle.td_cdr.specs.Joined.{bind_ok, done, ok_is}
 use Rattle.td_cdr.specs.Refused.{bind_err, read_again, mapped-refuses}
-use Rattle.td_indirection.specs.States.{State, nodes}
+use Rattle.td_indirection.specs.States.{CodingState, nodes}
 use Rattle.td_indirection.specs.Stateful.{StatefulFormat, IsWritten, Transfers, Sound}
 
 -- ---- values seen as others
 
-abbrev pub leaves_or : {N X : Type 0} → (X → State N) → State N → Option X → State N
+abbrev pub leaves_or : {N X : Type 0} → (X → CodingState N) → CodingState N → Option X
+    → CodingState N
 leaves_or leaves s (Some x) = leaves x
 leaves_or leaves s None = s
 
@@ -34,15 +35,15 @@ module _ {F N X Y : Type 0} (to : X → Y) (from : Y → Option X)
   abbrev seen : StatefulFormat F N Y
   seen = variant_format to from t.format
 
-  pub variant-joins : (s : State N) → Joins (seen.spells s) (seen.reads s)
+  pub variant-joins : (s : CodingState N) → Joins (seen.spells s) (seen.reads s)
   variant-joins s = record {
     found = λ a v next h e.
-        let made : (Y × State N) × At = (v, next) in
+        let made : (Y × CodingState N) × At = (v, next) in
         let x = bind_ok (t.format.reads s a) (λ x. Ok ((to x.0.0, x.0.1), x.1)) made e in
         let same : ((to x.0.0.0, x.0.0.1), x.0.1)
         ≡ made = ok_is {F = F} ((to x.0.0.0, x.0.0.1), x.0.1) made x.2 in
         let f = (t.joins s).found a x.0.0 x.0.1 h x.1 in
-        subst (λ (p : (Y × State N) × At). Found (seen.spells s) a p.0 p.1) same
+        subst (λ (p : (Y × CodingState N) × At). FoundSpelling (seen.spells s) a p.0 p.1) same
         (record {
           bytes = f.bytes;
           spelled = (x.0.0.0, refl, f.spelled);
@@ -89,7 +90,8 @@ module _ {F N X Y : Type 0} (to : X → Y) (from : Y → Option X)
 
 -- ---- only such values, by what the nodes are; the fault of another may name where it stands
 
-abbrev pub restriction_format : {F N X : Type 0} → (List N → X → Bool) → (State N → X → At → F)
+abbrev pub restriction_format : {F N X : Type 0} → (List N → X → Bool)
+    → (CodingState N → X → At → F)
     → StatefulFormat F N X → StatefulFormat F N X
 restriction_format {N = N} {X = X} good bad t = record {
   reads = λ s a. t.reads s a >>= λ x. if good (nodes s) x.0.0 then Ok x else Err (bad s x.0.0 a);
@@ -114,46 +116,48 @@ unfit_err : {F A : Type 0} (ok : Bool) (x : A) (d f : F) → cond ok (Ok x) (Err
 unfit_err true x d f e = absurd cc
 unfit_err false x d f e = (refl, cc)
 
-module _ {F N X : Type 0} (fit : List N → X → Bool) (bad : State N → X → At → F)
+module _ {F N X : Type 0} (fit : List N → X → Bool) (bad : CodingState N → X → At → F)
     (t : Sound F N X) where
   abbrev some : StatefulFormat F N X
   some = restriction_format fit bad t.format
 
-  pub restriction-joins : (s : State N) → Joins (some.spells s) (some.reads s)
+  pub restriction-joins : (s : CodingState N) → Joins (some.spells s) (some.reads s)
   restriction-joins s = record {
     found = λ a v next h e.
-        let made : (X × State N) × At = (v, next) in
+        let made : (X × CodingState N) × At = (v, next) in
         let x =
         bind_ok (t.format.reads s a) (λ x. cond (fit (nodes s) x.0.0) (Ok x) (Err (bad s x.0.0 a)))
         made e in
         let c = check_ok (fit (nodes s) x.0.0.0) (bad s x.0.0.0 a) x.0 made x.2 in
         let f = (t.joins s).found a x.0.0 x.0.1 h x.1 in
-        subst (λ (p : (X × State N) × At). Found (some.spells s) a p.0 p.1) c.1
+        subst (λ (p : (X × CodingState N) × At). FoundSpelling (some.spells s) a p.0 p.1) c.1
         (record { bytes = f.bytes; spelled = (c.0, f.spelled); parts = f.parts; moved = f.moved });
     only = λ a v b rest h p e.
         rw ((t.joins s).only a v b rest h p.1 e)
         (check_is (fit (nodes s) v.0) (bad s v.0 a) (v, after (length b) a) p.0);
   }
 
-  restriction-told : (s : State N) (a : At) (f : F) → a.origin ≤ a.place → some.reads s a ≡ Err f
+  restriction-content : (s : CodingState N) (a : At) (f : F) → a.origin ≤ a.place → some.reads s a
+      ≡ Err f
       → some.faults s a f
-  restriction-told s a f h e =
+  restriction-content s a f h e =
       elim (bind_err (t.format.reads s a)
       (λ x. cond (fit (nodes s) x.0.0) (Ok x) (Err (bad s x.0.0 a))) f e) [
-        | inl d ↦ RestrictionFault.unread ((t.refuses s).told a f h d)
+        | inl d ↦ RestrictionFault.unread ((t.refuses s).content a f h d)
         | inr d ↦ let u = unfit_err (fit (nodes s) d.0.0.0) d.0 (bad s d.0.0.0 a) f d.2 in
             RestrictionFault.unfit d.0.0 d.0.1 ((t.joins s).found a d.0.0 d.0.1 h d.1) u.0 u.1
       ]
 
-  restriction-refused : (s : State N) (a : At) (f : F) → a.origin ≤ a.place → some.faults s a f
+  restriction-refused : (s : CodingState N) (a : At) (f : F) → a.origin ≤ a.place
+      → some.faults s a f
       → some.reads s a ≡ Err f
   restriction-refused s a f h (RestrictionFault.unread d) = rw ((t.refuses s).only a f h d) refl
   restriction-refused s a f h (RestrictionFault.unfit x next found unfit is) =
       let one = read_again (t.format.spells s) (t.format.reads s) (t.joins s) a x next h found in
       rw (one, unfit, is) refl
 
-  pub restriction-refuses : (s : State N) → Refuses (some.faults s) (some.reads s)
-  restriction-refuses s = record { told = restriction-told s; only = restriction-refused s }
+  pub restriction-refuses : (s : CodingState N) → Refuses (some.faults s) (some.reads s)
+  restriction-refuses s = record { content = restriction-content s; only = restriction-refused s }
 
   pub restriction-transfers : Transfers some
   restriction-transfers graph first s u order o place p x next b octets sp agrees alike good short =

@@ -11,7 +11,7 @@ use Rattle.td_cdr.specs.Format.{Read}
 use Rattle.td_cdr.specs.Reading.{after}
 use Rattle.td_cdr.specs.Sound.{Sound}
 use Rattle.td_cdr.specs.declared.value_fault.ValueFault.{ValueFault}
-use Rattle.td_ior.specs.Enclosed.{Encloses, behind, start, start_of, value_in, enclosed_in, enclosing}
+use Rattle.td_ior.specs.Enclosed.{Encloses, behind, start, start_of, value_in, enclosed_in, encapsulate_value}
 use Rattle.td_ior.proofs.Keys.{bind-Some, some-is}
 
 abbrev some_at : At → Option At
@@ -24,49 +24,49 @@ record Starts (octets : List ℕ) (a : At) : Type 0 where
   little : Bool
   octet : ℕ
   body : List ℕ
-  told : IsFlag little octet
+  content : IsFlag little octet
   parts : octets ≡ octet ∷ body
   short : length octets < 2 ^ 32
   is : start little body ≡ a
 
-order-told : (t u : Bool) (octet : ℕ) (body : List ℕ) (a : At) → length body + 1 < 2 ^ 32 → nat_eq octet 0 ≡ t
+order-content : (t u : Bool) (octet : ℕ) (body : List ℕ) (a : At) → length body + 1 < 2 ^ 32 → nat_eq octet 0 ≡ t
     → nat_eq octet 1 ≡ u
     → (if t then some_at (start false body) else if u then some_at (start true body) else None) ≡ Some a
     → Starts (octet ∷ body) a
-order-told true u octet body a h e f g = record {
+order-content true u octet body a h e f g = record {
   little = false;
   octet = octet;
   body = body;
-  told = eqb-true octet 0 e;
+  content = eqb-true octet 0 e;
   parts = refl;
   short = omega arith;
   is = some-is (start false body) a g;
 }
-order-told false true octet body a h e f g = record {
+order-content false true octet body a h e f g = record {
   little = true;
   octet = octet;
   body = body;
-  told = eqb-true octet 1 f;
+  content = eqb-true octet 1 f;
   parts = refl;
   short = omega arith;
   is = some-is (start true body) a g;
 }
-order-told false false octet body a h e f g = absurd cc
+order-content false false octet body a h e f g = absurd cc
 
-short-told : (t : Bool) (octet : ℕ) (body : List ℕ) (a : At) → nat_lt (length body + 1) (2 ^ 32) ≡ t
+short-content : (t : Bool) (octet : ℕ) (body : List ℕ) (a : At) → nat_lt (length body + 1) (2 ^ 32) ≡ t
     → (if t then (if nat_eq octet 0 then some_at (start false body)
     else if nat_eq octet 1 then some_at (start true body) else None)
     else None)
     ≡ Some a
     → Starts (octet ∷ body) a
-short-told true octet body a h g =
+short-content true octet body a h g =
     let lt : length body + 1 < 2 ^ 32 = grind (arith, nat_tests) in
-    order-told (nat_eq octet 0) (nat_eq octet 1) octet body a lt refl refl g
-short-told false octet body a h g = absurd cc
+    order-content (nat_eq octet 0) (nat_eq octet 1) octet body a lt refl refl g
+short-content false octet body a h g = absurd cc
 
 start-found : (octets : List ℕ) (a : At) → start_of octets ≡ Some a → Starts octets a
 start-found [] a e = absurd cc
-start-found (octet ∷ body) a e = short-told (nat_lt (length body + 1) (2 ^ 32)) octet body a refl e
+start-found (octet ∷ body) a e = short-content (nat_lt (length body + 1) (2 ^ 32)) octet body a refl e
 
 start-only : (little : Bool) (octet : ℕ) (body : List ℕ) → IsFlag little octet → length (octet ∷ body) < 2 ^ 32
     → start_of (octet ∷ body) ≡ Some (start little body)
@@ -99,7 +99,7 @@ read-found g octets v a next begins read =
             order_octet = s.octet;
             body = f.bytes;
             ignored = next.rest;
-            order_told = s.told;
+            order_of_flag = s.content;
             parts = s.parts ∙ ap (λ (x : List ℕ). s.octet ∷ x) f.parts;
             short = s.short;
             spelled = f.spelled;
@@ -126,7 +126,7 @@ pub read-only : {Y : Type 0} (g : Sound ValueFault Y) (octets : List ℕ) (v : Y
 read-only {Y = Y} g octets v s =
     let body : List ℕ = s.body ++ s.ignored in
     let short : length (s.order_octet ∷ body) < 2 ^ 32 = subst (λ (x : List ℕ). length x < 2 ^ 32) s.parts s.short in
-    let begins = start-only s.little s.order_octet body s.order_told short in
+    let begins = start-only s.little s.order_octet body s.order_of_flag short in
     let one = g.lawful.only (start s.little body) v s.body s.ignored (omega arith) s.spelled refl in
     let there : At = behind g octets v s in
     let left = ap (resting there) (drop_at s.body s.ignored (length s.body) refl) in
@@ -142,13 +142,13 @@ enclosed-only g octets v s = let r = read-only g octets v s in rw (r.begins, r.r
 
 -- what is written for a value, behind the octet that tells big order
 pub enclosing-holds : {Y : Type 0} (g : Sound ValueFault Y) (v : Y) → g.format.admits v
-    → length (enclosing g v) < 2 ^ 32 → Encloses g (enclosing g v) v
+    → length (encapsulate_value g v) < 2 ^ 32 → Encloses g (encapsulate_value g v) v
 enclosing-holds g v ok short = record {
   little = false;
   order_octet = 0;
   body = g.format.writes v Big 1;
   ignored = [];
-  order_told = refl;
+  order_of_flag = refl;
   parts = ap (λ (x : List ℕ). 0 ∷ x) (sym (append-nil (g.format.writes v Big 1)));
   short = short;
   spelled = g.lawful.written Big 1 v ok (omega (arith, short));

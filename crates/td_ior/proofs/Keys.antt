@@ -14,9 +14,9 @@ use Rattle.td_cdr.specs.Names.{trader_name, is_trader_byte, IsTraderName}
 use Rattle.td_value.specs.declared.key.Kind.{Kind}
 use Rattle.td_value.specs.declared.key.Kind.TheVariants.{Lookup, Register, Link, Proxy, Admin, Types, Iterator}
 use Rattle.td_value.specs.declared.key.ObjectKey.{ObjectKey}
-use Rattle.td_ior.specs.Laws.{Agrees}
+use Rattle.td_ior.specs.Laws.{ReadsWhatIsSpelled}
 use Rattle.td_ior.specs.Number.{number_of}
-use Rattle.td_ior.specs.Keys.{SpellsKey, IsKind, kind_piece, written_key, ◌>>=◌, key_of, kind_of, at_slash, named}
+use Rattle.td_ior.specs.Keys.{SpellsKey, IsKind, kind_piece, written_key, ◌>>=◌, key_of, kind_of, at_slash, named_key}
 use Rattle.td_ior.specs.Keys.{letter_kind, one_letter, iterator_of}
 use Rattle.td_ior.proofs.Numbers.{and-left, and-right, below-read, below-only}
 
@@ -162,7 +162,7 @@ kind-only (Iterator n) h = iterator-only n h.0 h.1
 -- ---- the whole key
 
 abbrev with_parts : List ℕ × List ℕ → Option ObjectKey
-with_parts parts = kind_of parts.1 >>= named parts.0
+with_parts parts = kind_of parts.1 >>= named_key parts.0
 
 key-steps : (octets : List ℕ) → key_of octets ≡ (at_slash octets >>= with_parts)
 unfolding key_of
@@ -177,7 +177,7 @@ named-at false name kind key e h = absurd cc
 key-found : (octets : List ℕ) (key : ObjectKey) → key_of octets ≡ Some key → SpellsKey octets key
 key-found octets key e =
     let p = bind-Some (at_slash octets) with_parts key (sym (key-steps octets) ∙ e) in
-    let k = bind-Some (kind_of p.0.1) (named p.0.0) key p.2 in
+    let k = bind-Some (kind_of p.0.1) (named_key p.0.0) key p.2 in
     let n = named-at (trader_name p.0.0) p.0.0 k.0 key refl k.2 in
     let s = kind-found p.0.1 k.0 k.1 in
     let here : SpellsKey octets (record { trader = p.0.0; kind = k.0 }) =
@@ -195,7 +195,7 @@ key-only octets key s =
     let name : trader_name key.trader ≡ true = s.trader in
     key-steps octets ∙ rw (cut, kind-only key.kind s.kind, name) refl
 
-pub keys-agree : Agrees SpellsKey key_of
+pub keys-agree : ReadsWhatIsSpelled SpellsKey key_of
 keys-agree = record { found = key-found; only = key-only }
 
 -- no two keys are written alike

@@ -11,13 +11,14 @@ use Rattle.td_cdr.specs.declared.value_fault.ValueFault.{ValueFault}
 use Rattle.td_cdr.specs.Format.{Read, ◌then◌}
 use Rattle.td_cdr.specs.Place.{At}
 use Rattle.td_cdr.specs.Text.{HasNoNul}
-use Rattle.td_codes.specs.declared.reference.Profile.{Profile}
+use Rattle.td_typecode.specs.declared.reference.Profile.{Profile}
 use Rattle.td_ior.specs.declared.profile.Iiop.{Iiop}
 use Rattle.td_ior.specs.Enclosed.{Encloses, behind, start_of}
 use Rattle.td_ior.specs.Keys.{◌>>=◌}
-use Rattle.td_ior.specs.Laws.{Agrees}
-use Rattle.td_ior.specs.Profiles.{Front, front, front_of, components, SpellsComponents, HasComponents, components_told}
-use Rattle.td_ior.specs.Profiles.{components_at, with_components, iiop_told, no_components}
+use Rattle.td_ior.specs.Laws.{ReadsWhatIsSpelled}
+use Rattle.td_ior.specs.Profiles.{ProfileBody, front, front_of, components, SpellsComponents, HasComponents}
+use Rattle.td_ior.specs.Profiles.{components_in_profile}
+use Rattle.td_ior.specs.Profiles.{components_at, with_components, iiop_of_body, no_components}
 use Rattle.td_ior.specs.Profiles.{iiop_tag, IsIiop, HasNoIiop, IsFirstIiop, first_iiop, iiop_in, or_else}
 use Rattle.td_ior.specs.Profiles.{iiop_of, made_octets, made_reference}
 use Rattle.td_ior.proofs.Encapsulated.{read-found, read-only}
@@ -65,7 +66,7 @@ missed-all ps i h so_far = sym (ap first_iiop (drop_all i ps h)) ∙ so_far
 
 -- what a reading of components comes to, at any version but 1.0
 reading-has : (minor : ℕ) (a : At) (r : Read ValueFault (List Profile)) → minor ≢ 0 → a.origin ≤ a.place
-    → components.format.reads a ≡ r → HasComponents a minor (components_told r)
+    → components.format.reads a ≡ r → HasComponents a minor (components_in_profile r)
 reading-has minor a (Ok x) newer within e =
     let f = components.lawful.found a x.0 x.1 within e in
     HasComponents.spelled newer (record { bytes = f.bytes; ignored = x.1.rest; parts = f.parts; spelled = f.spelled })
@@ -74,7 +75,7 @@ reading-has minor a (Err f) newer within e =
     let one = components.lawful.only a others s.bytes s.ignored within s.spelled s.parts in cc (one, e)) refl
 
 by-version : (t : Bool) (minor : ℕ) (a : At) → nat_eq minor 0 ≡ t → a.origin ≤ a.place
-    → HasComponents a minor (if t then [] else components_told (components.format.reads a))
+    → HasComponents a minor (if t then [] else components_in_profile (components.format.reads a))
 by-version true minor a e within = HasComponents.older (eqb-true minor 0 e) refl
 by-version false minor a e within =
     reading-has minor a (components.format.reads a) (eqb-false minor 0 e) within refl
@@ -82,24 +83,24 @@ by-version false minor a e within =
 components-found : (minor : ℕ) (a : At) → a.origin ≤ a.place → HasComponents a minor (components_at minor a)
 components-found minor a within = by-version (nat_eq minor 0) minor a refl within
 
-newer-reads : (minor : ℕ) (a : At) → minor ≢ 0 → components_at minor a ≡ components_told (components.format.reads a)
+newer-reads : (minor : ℕ) (a : At) → minor ≢ 0 → components_at minor a ≡ components_in_profile (components.format.reads a)
 newer-reads minor a newer = rw (ne_eqb minor 0 newer) refl
 
-none-told : (a : At) (r : Read ValueFault (List Profile)) → a.origin ≤ a.place → components.format.reads a ≡ r
-    → ((others : List Profile) → ¬ (SpellsComponents a others)) → components_told r ≡ []
-none-told a (Ok x) within e none =
+none-content : (a : At) (r : Read ValueFault (List Profile)) → a.origin ≤ a.place → components.format.reads a ≡ r
+    → ((others : List Profile) → ¬ (SpellsComponents a others)) → components_in_profile r ≡ []
+none-content a (Ok x) within e none =
     let f = components.lawful.found a x.0 x.1 within e in
     absurd (none x.0 (record { bytes = f.bytes; ignored = x.1.rest; parts = f.parts; spelled = f.spelled }))
-none-told a (Err f) within e none = refl
+none-content a (Err f) within e none = refl
 
 components-only : (minor : ℕ) (a : At) (cs : List Profile) → a.origin ≤ a.place → HasComponents a minor cs
     → components_at minor a ≡ cs
 components-only minor a cs within (HasComponents.older e none) = rw e (sym none)
 components-only minor a cs within (HasComponents.spelled newer s) =
     newer-reads minor a newer
-    ∙ ap components_told (components.lawful.only a cs s.bytes s.ignored within s.spelled s.parts)
+    ∙ ap components_in_profile (components.lawful.only a cs s.bytes s.ignored within s.spelled s.parts)
 components-only minor a cs within (HasComponents.absent newer none is) =
-    newer-reads minor a newer ∙ none-told a (components.format.reads a) within refl none ∙ sym is
+    newer-reads minor a newer ∙ none-content a (components.format.reads a) within refl none ∙ sym is
 
 none-admitted : components.format.admits []
 none-admitted = (omega arith, refl)
@@ -107,7 +108,7 @@ none-admitted = (omega arith, refl)
 -- none were written
 none-at : (t : Bool) (minor : ℕ) (a : At) → nat_eq minor 0 ≡ t → a.origin ≤ a.place → a.place - a.origin ≡ a.place
     → a.order ≡ Big → a.rest ≡ (if t then [] else components.format.writes [] Big a.place)
-    → length a.rest < 2 ^ 32 → (if t then [] else components_told (components.format.reads a)) ≡ []
+    → length a.rest < 2 ^ 32 → (if t then [] else components_in_profile (components.format.reads a)) ≡ []
 none-at true minor a e within from big is short = refl
 none-at false minor a e within from big is short =
     let bytes : List ℕ = components.format.writes [] Big a.place in
@@ -116,13 +117,13 @@ none-at false minor a e within from big is short =
     let here : components.format.spells a.order (a.place - a.origin) [] bytes =
     subst (λ (n : ℕ). components.format.spells a.order n [] bytes) (sym from)
     (subst (λ (o : Order). components.format.spells o a.place [] bytes) (sym big) spelled) in
-    ap components_told
+    ap components_in_profile
     (components.lawful.only a [] bytes [] within here (is ∙ sym (append-nil bytes)))
 
 -- ---- a profile
 
 -- what stands in front of the components, and where they stand
-record ToldAt (r : Read ValueFault Front) (v : Iiop) : Type 0 where
+record ContentAt (r : Read ValueFault ProfileBody) (v : Iiop) : Type 0 where
   there : At
   read : r ≡ Ok (front_of v, there)
   components : components_at v.minor there ≡ v.components
@@ -130,22 +131,22 @@ record ToldAt (r : Read ValueFault Front) (v : Iiop) : Type 0 where
 abbrev iiop_with : Iiop → List Profile → Option Iiop
 iiop_with v cs = Some (record v { components = cs })
 
-told-found : (r : Read ValueFault Front) (v : Iiop) → iiop_told r ≡ Some v → ToldAt r v
-told-found (Ok x) v e =
-    subst (ToldAt (Ok x)) (some-is (with_components x.0 x.1) v e)
+content-found : (r : Read ValueFault ProfileBody) (v : Iiop) → iiop_of_body r ≡ Some v → ContentAt r v
+content-found (Ok x) v e =
+    subst (ContentAt (Ok x)) (some-is (with_components x.0 x.1) v e)
     (record { there = x.1; read = refl; components = refl })
-told-found (Err f) v e = absurd cc
+content-found (Err f) v e = absurd cc
 
-told-only : (r : Read ValueFault Front) (v : Iiop) (there : At) → r ≡ Ok (front_of v, there)
-    → components_at v.minor there ≡ v.components → iiop_told r ≡ Some v
-told-only r v there read same =
-    ap iiop_told read ∙ ap (iiop_with v) same
+content-only : (r : Read ValueFault ProfileBody) (v : Iiop) (there : At) → r ≡ Ok (front_of v, there)
+    → components_at v.minor there ≡ v.components → iiop_of_body r ≡ Some v
+content-only r v there read same =
+    ap iiop_of_body read ∙ ap (iiop_with v) same
 
 tagged : (t : Bool) (p : Profile) (v : Iiop) → nat_eq p.tag 0 ≡ t
-    → (if t then (start_of p.octets >>= λ a. iiop_told (front.format.reads a)) else None) ≡ Some v → IsIiop p v
+    → (if t then (start_of p.octets >>= λ a. iiop_of_body (front.format.reads a)) else None) ≡ Some v → IsIiop p v
 tagged true p v e h =
-    let b = bind-Some (start_of p.octets) (λ (a : At). iiop_told (front.format.reads a)) v h in
-    let t = told-found (front.format.reads b.0) v b.2 in
+    let b = bind-Some (start_of p.octets) (λ (a : At). iiop_of_body (front.format.reads a)) v h in
+    let t = content-found (front.format.reads b.0) v b.2 in
     let r = read-found front p.octets (front_of v) b.0 t.there b.1 t.read in
     let within : t.there.origin ≤ t.there.place =
     subst (λ (a : At). a.origin ≤ a.place) r.next_is (omega arith) in
@@ -166,9 +167,9 @@ profile-only p v s =
     let r = read-only front p.octets (front_of v) s.body in
     let there : At = behind front p.octets (front_of v) s.body in
     let same = components-only v.minor there v.components (omega arith) s.components in
-    rw (s.tag, r.begins) (told-only (front.format.reads r.at) v there r.read same)
+    rw (s.tag, r.begins) (content-only (front.format.reads r.at) v there r.read same)
 
-pub profile-agrees : Agrees IsIiop iiop_in
+pub profile-agrees : ReadsWhatIsSpelled IsIiop iiop_in
 profile-agrees = record { found = profile-found; only = profile-only }
 
 no-profile : (p : Profile) → ((v : Iiop) → ¬ (IsIiop p v)) → (o : Option Iiop) → iiop_in p ≡ o → iiop_in p ≡ None
@@ -218,7 +219,7 @@ unfolding first_iiop
 first-found [] v e = absurd cc
 first-found (p ∷ ps) v e = mutual_found (iiop_in p) p ps v refl e (first-found ps v)
 
-pub first-agrees : Agrees IsFirstIiop first_iiop
+pub first-agrees : ReadsWhatIsSpelled IsFirstIiop first_iiop
 first-agrees = record { found = first-found; only = first-only }
 
 both-none : (o later : Option Iiop) → or_else o later ≡ None → (o ≡ None) × (later ≡ None)
@@ -258,7 +259,7 @@ made-found id host key port minor clean low newest short =
       order_octet = 0;
       body = bytes;
       ignored = later;
-      order_told = refl;
+      order_of_flag = refl;
       parts = refl;
       short = short;
       spelled = begins;
@@ -268,7 +269,7 @@ made-found id host key port minor clean low newest short =
     let few : length later < 2 ^ 32 = omega (arith, short, long) in
     let none : components_at minor there ≡ [] =
     none-at (nat_eq minor 0) minor there refl (omega arith) (omega arith) refl refl few in
-    rw (r.begins, told-only (front.format.reads r.at) v there r.read none) refl
+    rw (r.begins, content-only (front.format.reads r.at) v there r.read none) refl
 
 pub made-back : (id host key kept : List ℕ) (port minor : ℕ) (profiles : List Profile) → HasNoNul host → port < 65536
     → minor ≤ 1 → length kept < 2 ^ 32 → kept ≡ made_octets host port key minor

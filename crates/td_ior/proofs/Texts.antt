@@ -11,16 +11,17 @@ use Rattle.hex.specs.Hex.{decode_of, encode_lower, IsBytes}
 use Rattle.hex.specs.declared.error.FromHexError.{FromHexError}
 use Rattle.hex.proofs.HexLemmas.{decode_of-encode_lower}
 use Rattle.td_cdr.specs.Text.{has_nul, HasNoNul}
-use Rattle.td_codes.specs.declared.reference.Ior.{Ior}
-use Rattle.td_codes.specs.declared.reference.Profile.{Profile}
-use Rattle.td_codes.specs.References.{reference}
-use Rattle.td_ior.specs.Enclosed.{Encloses, enclosed_in, enclosing}
+use Rattle.td_typecode.specs.declared.reference.Ior.{Ior}
+use Rattle.td_typecode.specs.declared.reference.Profile.{Profile}
+use Rattle.td_typecode.specs.References.{reference}
+use Rattle.td_ior.specs.Enclosed.{Encloses, enclosed_in, encapsulate_value}
 use Rattle.td_ior.specs.Keys.{◌>>=◌}
-use Rattle.td_ior.specs.Laws.{Agrees}
+use Rattle.td_ior.specs.Laws.{ReadsWhatIsSpelled}
 use Rattle.td_ior.specs.Number.{port_of}
 use Rattle.td_ior.specs.Profiles.{made_profile, made_reference}
-use Rattle.td_ior.specs.Texts.{IsHexForm, IsPlainForm, IsReferenceText, HasNoComma, hex_form, cut_last, unmarked, Parts}
-use Rattle.td_ior.specs.Texts.{with_port, parts_of, plain_form, reference_in, printed}
+use Rattle.td_ior.specs.Texts.{IsHexForm, IsPlainForm, IsReferenceText, HasNoComma, hex_form, cut_last, without_mark}
+use Rattle.td_ior.specs.Texts.{IorParts}
+use Rattle.td_ior.specs.Texts.{with_port, parts_of, plain_form, reference_in, printed_ior}
 use Rattle.td_ior.proofs.Commas.{cut_last-none, cut_last-here, cut_last-append}
 use Rattle.td_ior.proofs.Encapsulated.{enclosed-found, enclosed-only, enclosing-holds}
 use Rattle.td_ior.proofs.Keys.{bind-Some, some-is, same-bytes}
@@ -104,22 +105,22 @@ unmarked-test true text rest e h =
     ∙ ap (λ x. codes "ref:" ++ x) (some-is (drop 4 text) rest h)
 unmarked-test false text rest e h = absurd cc
 
-unmarked-Some : (text rest : List ℕ) → unmarked text ≡ Some rest → text ≡ codes "ref:" ++ rest
+unmarked-Some : (text rest : List ℕ) → without_mark text ≡ Some rest → text ≡ codes "ref:" ++ rest
 unmarked-Some text rest h = unmarked-test (bytes_eq (take 4 text) (codes "ref:")) text rest refl h
 
 joined : (text rest a b id host port key : List ℕ) → text ≡ codes "ref:" ++ rest → rest ≡ a ++ 44 ∷ key
     → a ≡ b ++ 44 ∷ port → b ≡ id ++ 44 ∷ host → text ≡ codes "ref:" ++ (id ++ 44 ∷ (host ++ 44 ∷ (port ++ 44 ∷ key)))
 joined text rest a b id host port key e f g h = rw (e, f, g, h) (simp append_assoc)
 
-abbrev some_parts : Parts → Option Parts
+abbrev some_parts : IorParts → Option IorParts
 some_parts p = Some p
 
-record IsWithPort (first : List ℕ × List ℕ) (key : List ℕ) (port : ℕ) (parts : Parts) : Type 0 where
+record IsWithPort (first : List ℕ × List ℕ) (key : List ℕ) (port : ℕ) (parts : IorParts) : Type 0 where
   id_plain : HasNoNul first.0
   host_plain : HasNoNul first.1
   is : record { id = first.0; host = first.1; port = port; key = key } ≡ parts
 
-with_port-at : (t : Bool) (first : List ℕ × List ℕ) (key : List ℕ) (port : ℕ) (parts : Parts)
+with_port-at : (t : Bool) (first : List ℕ × List ℕ) (key : List ℕ) (port : ℕ) (parts : IorParts)
     → (has_nul first.0 || has_nul first.1) ≡ t
     → (if t then None else some_parts (record { id = first.0; host = first.1; port = port; key = key })) ≡ Some parts
     → IsWithPort first key port parts
@@ -130,28 +131,28 @@ with_port-at false first key port parts e h = record {
   is = some-is (record { id = first.0; host = first.1; port = port; key = key }) parts h;
 }
 
-abbrev with_first : List ℕ × List ℕ → List ℕ × List ℕ → List ℕ × List ℕ → Option Parts
+abbrev with_first : List ℕ × List ℕ → List ℕ × List ℕ → List ℕ × List ℕ → Option IorParts
 with_first last before first = port_of before.1 >>= with_port first last.1
 
-abbrev with_before : List ℕ × List ℕ → List ℕ × List ℕ → Option Parts
+abbrev with_before : List ℕ × List ℕ → List ℕ × List ℕ → Option IorParts
 with_before last before = cut_last before.0 >>= with_first last before
 
-abbrev with_last : List ℕ × List ℕ → Option Parts
+abbrev with_last : List ℕ × List ℕ → Option IorParts
 with_last last = cut_last last.0 >>= with_before last
 
-abbrev with_rest : List ℕ → Option Parts
+abbrev with_rest : List ℕ → Option IorParts
 with_rest rest = cut_last rest >>= with_last
 
-parts-steps : (text : List ℕ) → parts_of text ≡ (unmarked text >>= with_rest)
+parts-steps : (text : List ℕ) → parts_of text ≡ (without_mark text >>= with_rest)
 unfolding parts_of
 parts-steps text = refl
 
-abbrev made_of : Parts → Ior
+abbrev made_of : IorParts → Ior
 made_of p = made_reference p.id p.host p.port p.key 0
 
-parts-found : (text : List ℕ) (parts : Parts) → parts_of text ≡ Some parts → IsPlainForm text (made_of parts)
+parts-found : (text : List ℕ) (parts : IorParts) → parts_of text ≡ Some parts → IsPlainForm text (made_of parts)
 parts-found text parts e =
-    let rest = bind-Some (unmarked text) with_rest parts (sym (parts-steps text) ∙ e) in
+    let rest = bind-Some (without_mark text) with_rest parts (sym (parts-steps text) ∙ e) in
     let last = bind-Some (cut_last rest.0) with_last parts rest.2 in
     let before = bind-Some (cut_last last.0.0) (with_before last.0) parts last.2 in
     let first = bind-Some (cut_last before.0.0) (with_first last.0 before.0) parts before.2 in
@@ -181,7 +182,7 @@ parts-found text parts e =
 
 plain-found : (text : List ℕ) (r : Ior) → plain_form text ≡ Some r → IsPlainForm text r
 plain-found text r e =
-    let parts = bind-Some (parts_of text) (λ (p : Parts). Some (made_of p)) r e in
+    let parts = bind-Some (parts_of text) (λ (p : IorParts). Some (made_of p)) r e in
     subst (IsPlainForm text) (some-is (made_of parts.0) r parts.2) (parts-found text parts.0 parts.1)
 
 parts-only : (text : List ℕ) (r : Ior) (s : IsPlainForm text r)
@@ -243,21 +244,21 @@ text-only text r (IsReferenceText.plain s) =
     let other : reference_in text ≡ plain_form text = ap reference_in s.whole ∙ sym (ap plain_form s.whole) in
     other ∙ plain-only text r s
 
-pub texts-agree : Agrees IsReferenceText reference_in
+pub texts-agree : ReadsWhatIsSpelled IsReferenceText reference_in
 texts-agree = record { found = text-found; only = text-only }
 
-pub printed-found : (r : Ior) → reference.format.admits r → IsBytes (enclosing reference r)
-    → length (enclosing reference r) < 2 ^ 32 → reference_in (printed r) ≡ Some r
+pub printed-found : (r : Ior) → reference.format.admits r → IsBytes (encapsulate_value reference r)
+    → length (encapsulate_value reference r) < 2 ^ 32 → reference_in (printed_ior r) ≡ Some r
 printed-found r ok bytes short =
-    hex-only (encode_lower (enclosing reference r)) (enclosing reference r) r
-    (decode_of-encode_lower (enclosing reference r) bytes)
+    hex-only (encode_lower (encapsulate_value reference r)) (encapsulate_value reference r) r
+    (decode_of-encode_lower (encapsulate_value reference r) bytes)
     (enclosing-holds reference r ok short)
 
 pub printed-back : {E : Type 0} (r : Ior) (octets : List ℕ) (result : Result (List ℕ) E)
-    → IfOk result (λ t. t ≡ codes "IOR:" ++ encode_lower octets) → octets ≡ enclosing reference r → IsBytes octets
+    → IfOk result (λ t. t ≡ codes "IOR:" ++ encode_lower octets) → octets ≡ encapsulate_value reference r → IsBytes octets
     → length octets < 2 ^ 32 → IfOk result (λ t. reference.format.admits r → reference_in t ≡ Some r)
 printed-back r octets (Ok t) e held bytes short = λ ok.
-    let printed_is : t ≡ printed r = e ∙ ap (λ (o : List ℕ). codes "IOR:" ++ encode_lower o) held in
+    let printed_is : t ≡ printed_ior r = e ∙ ap (λ (o : List ℕ). codes "IOR:" ++ encode_lower o) held in
     ap reference_in printed_is
     ∙ printed-found r ok (subst IsBytes held bytes) (subst (λ (o : List ℕ). length o < 2 ^ 32) held short)
 printed-back r octets (Err d) e held bytes short = tt

@@ -19,7 +19,7 @@ pub record Encloses {Y : Type 0} (g : Sound ValueFault Y) (octets : List ℕ) (v
   pub order_octet : ℕ
   pub body : List ℕ
   pub ignored : List ℕ
-  pub order_told : IsFlag little order_octet
+  pub order_of_flag : IsFlag little order_octet
   pub parts : octets ≡ order_octet ∷ (body ++ ignored)
   pub short : length octets < 2 ^ 32
   pub spelled : g.format.spells (order_of little) 1 v body
@@ -53,5 +53,5 @@ enclosed_in g octets = start_of octets >>= λ a. value_in (g.format.reads a)
 
 -- ---- how they are written, in big order
 
-abbrev pub enclosing : {Y : Type 0} → Sound ValueFault Y → Y → List ℕ
-enclosing g v = flag Big ∷ g.format.writes v Big 1
+abbrev pub encapsulate_value : {Y : Type 0} → Sound ValueFault Y → Y → List ℕ
+encapsulate_value g v = flag Big ∷ g.format.writes v Big 1

@@ -71,14 +71,15 @@ abbrev pub at_slash : List ℕ → Option (List ℕ × List ℕ)
 at_slash octets = position (λ b. nat_eq b 47) octets >>= λ i.
     Some (take i octets, drop (i + 1) octets)
 
-abbrev pub named : List ℕ → Kind → Option ObjectKey
-named name kind = if trader_name name then Some (record { trader = name; kind = kind }) else None
+abbrev pub named_key : List ℕ → Kind → Option ObjectKey
+named_key name kind = if trader_name name then Some (record { trader = name; kind = kind })
+    else None
 
 unfoldable pub key_of : List ℕ → Option ObjectKey
 key_of octets = do
   parts ← at_slash octets
   kind ← kind_of parts.1
-  named parts.0 kind
+  named_key parts.0 kind
 
 -- What a reader of keys answers: the key, and BadKey exactly where there is none. Memory wants only for
 -- a key's copy.

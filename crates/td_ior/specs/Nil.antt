@@ -1,6 +1,6 @@
 -- Nil references.
 use Rattle.std.specs.Prelude.{nat_eq, Bool, ◌&&◌, [], length}
-use Rattle.td_codes.specs.declared.reference.Ior.{Ior}
+use Rattle.td_typecode.specs.declared.reference.Ior.{Ior}
 
 -- it has neither an id nor a profile
 abbrev pub is_nil : Ior → Bool

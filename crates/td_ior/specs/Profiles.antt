@@ -3,9 +3,9 @@ use Rattle.std.specs.Prelude.{◌≡◌, ◌≢◌, ℕ, ◌-◌, nat_eq, List, 
 use Rattle.std.specs.Prelude.{Result, Ok, Err, refl}
 use Rattle.std.proofs.Common.{arith}
 use Rattle.std.specs.Option.{IsSome}
-use Rattle.td_codes.specs.declared.reference.Ior.{Ior}
-use Rattle.td_codes.specs.declared.reference.Profile.{Profile}
-use Rattle.td_codes.specs.References.{profile}
+use Rattle.td_typecode.specs.declared.reference.Ior.{Ior}
+use Rattle.td_typecode.specs.declared.reference.Profile.{Profile}
+use Rattle.td_typecode.specs.References.{profile}
 use Rattle.td_cdr.specs.declared.order.Order.TheVariants.{Big}
 use Rattle.td_cdr.specs.Format.{Piece, Read, ◌then◌}
 use Rattle.td_cdr.specs.Gap.{flag}
@@ -35,14 +35,14 @@ major =
     (refl, omega arith)
 
 -- what every version has
-pub record Front : Type 0 where
+pub record ProfileBody : Type 0 where
   pub minor : ℕ
   pub host : List ℕ
   pub port : ℕ
   pub key : List ℕ
 
 -- the version's two octets, the host, the port and the object's key
-abbrev pub front : Sound ValueFault Front
+abbrev pub front : Sound ValueFault ProfileBody
 front =
     structure
     (λ p. record { minor = p.1.0; host = p.1.1.0; port = p.1.1.1.0; key = p.1.1.1.1 })
@@ -50,7 +50,7 @@ front =
     (λ _. refl) (λ _. refl)
     (major & number 1 & text & number 2 & octets)
 
-abbrev pub front_of : Iiop → Front
+abbrev pub front_of : Iiop → ProfileBody
 front_of v = record { minor = v.minor; host = v.host; port = v.port; key = v.key }
 
 -- ---- components: each a tag and octets, as a profile is
@@ -96,14 +96,15 @@ pub record IsFirstIiop (profiles : List Profile) (v : Iiop) : Type 0 where
 
 -- ---- how it is found
 
-abbrev pub components_told : Read ValueFault (List Profile) → List Profile
-components_told (Ok x) = x.0
-components_told (Err e) = []
+abbrev pub components_in_profile : Read ValueFault (List Profile) → List Profile
+components_in_profile (Ok x) = x.0
+components_in_profile (Err e) = []
 
 abbrev pub components_at : (minor : ℕ) → At → List Profile
-components_at minor a = if nat_eq minor 0 then [] else components_told (components.format.reads a)
+components_at minor a = if nat_eq minor 0 then [] else components_in_profile
+    (components.format.reads a)
 
-abbrev pub with_components : Front → At → Iiop
+abbrev pub with_components : ProfileBody → At → Iiop
 with_components f a = record {
   host = f.host;
   port = f.port;
@@ -112,14 +113,14 @@ with_components f a = record {
   components = components_at f.minor a;
 }
 
-abbrev pub iiop_told : Read ValueFault Front → Option Iiop
-iiop_told (Ok x) = Some (with_components x.0 x.1)
-iiop_told (Err e) = None
+abbrev pub iiop_of_body : Read ValueFault ProfileBody → Option Iiop
+iiop_of_body (Ok x) = Some (with_components x.0 x.1)
+iiop_of_body (Err e) = None
 
 abbrev pub iiop_in : Profile → Option Iiop
 iiop_in profile =
     if nat_eq profile.tag iiop_tag then (start_of profile.octets >>= λ a.
-    iiop_told (front.format.reads a)) else None
+    iiop_of_body (front.format.reads a)) else None
 
 abbrev pub or_else : Option Iiop → Option Iiop → Option Iiop
 or_else (Some v) later = Some v
@@ -154,7 +155,7 @@ no_components minor order place = if nat_eq minor 0 then [] else components.form
 
 abbrev pub made_octets : List ℕ → ℕ → List ℕ → (minor : ℕ) → List ℕ
 made_octets host port key minor =
-    let v : Front = record { minor = minor; host = host; port = port; key = key } in
+    let v : ProfileBody = record { minor = minor; host = host; port = port; key = key } in
     flag Big ∷ (front.format.writes v then no_components minor) Big 1
 
 abbrev pub made_profile : List ℕ → ℕ → List ℕ → (minor : ℕ) → Profile

@@ -7,11 +7,11 @@ use Rattle.std.specs.Result.{result_ok}
 use Rattle.std.specs.Str.{bytes_eq}
 use Rattle.hex.specs.Hex.{decode_of, encode_lower}
 use Rattle.td_cdr.specs.Text.{has_nul, HasNoNul}
-use Rattle.td_codes.specs.declared.reference.Ior.{Ior}
-use Rattle.td_codes.specs.References.{reference}
+use Rattle.td_typecode.specs.declared.reference.Ior.{Ior}
+use Rattle.td_typecode.specs.References.{reference}
 use Rattle.td_ior.specs.declared.fault.IorFault.{IorFault}
 use Rattle.td_ior.specs.declared.fault.IorFault.TheVariants.{NotIor, Memory}
-use Rattle.td_ior.specs.Enclosed.{Encloses, enclosed_in, enclosing}
+use Rattle.td_ior.specs.Enclosed.{Encloses, enclosed_in, encapsulate_value}
 use Rattle.td_ior.specs.Keys.{◌>>=◌}
 use Rattle.td_ior.specs.Number.{SpellsBelow, port_of}
 use Rattle.td_ior.specs.Profiles.{made_reference}
@@ -62,23 +62,23 @@ cut_last [] = None
 cut_last (b ∷ bytes) = cut_before b bytes (cut_last bytes)
 
 -- what follows `ref:`
-abbrev pub unmarked : List ℕ → Option (List ℕ)
-unmarked text = if bytes_eq (take 4 text) (codes "ref:") then Some (drop 4 text) else None
+abbrev pub without_mark : List ℕ → Option (List ℕ)
+without_mark text = if bytes_eq (take 4 text) (codes "ref:") then Some (drop 4 text) else None
 
-pub record Parts : Type 0 where
+pub record IorParts : Type 0 where
   pub id : List ℕ
   pub host : List ℕ
   pub port : ℕ
   pub key : List ℕ
 
-abbrev pub with_port : List ℕ × List ℕ → List ℕ → ℕ → Option Parts
+abbrev pub with_port : List ℕ × List ℕ → List ℕ → ℕ → Option IorParts
 with_port first key port =
     if has_nul first.0 || has_nul first.1 then None
     else Some (record { id = first.0; host = first.1; port = port; key = key })
 
-unfoldable pub parts_of : List ℕ → Option Parts
+unfoldable pub parts_of : List ℕ → Option IorParts
 parts_of text = do
-  parts ← unmarked text
+  parts ← without_mark text
   last ← cut_last parts
   before ← cut_last last.0
   first ← cut_last before.0
@@ -101,5 +101,5 @@ ReadsText found (Err e) = ⊥
 
 -- ---- how a reference is printed
 
-abbrev pub printed : Ior → List ℕ
-printed r = codes "IOR:" ++ encode_lower (enclosing reference r)
+abbrev pub printed_ior : Ior → List ℕ
+printed_ior r = codes "IOR:" ++ encode_lower (encapsulate_value reference r)

@@ -18,7 +18,7 @@ pub enum IorFault {
     /// The octets are the key of no object.
     #[error("the octets are no object key")]
     BadKey,
-    /// Want of memory.
+    /// Out of memory.
     #[error("there is no memory left")]
     Memory,
 }

@@ -18,7 +18,7 @@ use td_value::{Kind, ObjectKey};
 ///
 /// # Errors
 ///
-/// `BadKey` exactly where the octets are the key of no object; `Memory` for want of memory.
+/// `BadKey` exactly where the octets are the key of no object; `Memory` when out of memory.
 pub fn read_key(alloc: Global, octets: &[u8]) -> Result<ObjectKey, IorFault>
     ensures { ReadsKey (key_of octets.now) result }
 {
@@ -101,7 +101,7 @@ fn letter_kind(letter: u8) -> Option<Kind>
 ///
 /// # Errors
 ///
-/// `Memory` for want of memory alone.
+/// `Memory` only when out of memory.
 pub fn write_key(alloc: Global, key: &ObjectKey) -> Result<Octets, Memory>
     ensures { IfOk result (λ octets. octets ≡ written_key key.now) }
 {

@@ -4,7 +4,8 @@ ghost use Rattle.std.specs.Prelude.{◌≡◌, ◌≤◌, ◌<◌, ◌^◌, [], 
 ghost use Rattle.std.specs.Option.{is_some, option_map};
 ghost use Rattle.td_cdr.specs.Text.{HasNoNul};
 ghost use Rattle.td_cdr.specs.Writing.{Adds};
-ghost use Rattle.td_ior.specs.Profiles.{components_at, front, iiop_told, iiop_in, first_iiop, iiop_of, lent, ReadsIiop};
+ghost use Rattle.td_ior.specs.Profiles.{components_at, front, iiop_of_body, iiop_in, first_iiop, iiop_of, lent};
+ghost use Rattle.td_ior.specs.Profiles.{ReadsIiop};
 ghost use Rattle.td_ior.specs.Profiles.{made_octets, made_reference, no_components};
 
 use crate::enclosed::start_of;
@@ -61,7 +62,7 @@ struct Body<'a> {
 ///
 /// # Errors
 ///
-/// `NoIiop` exactly where no profile is of IIOP; `Memory` for want of memory.
+/// `NoIiop` exactly where no profile is of IIOP; `Memory` when out of memory.
 pub fn iiop_of(alloc: Global, reference: &Ior) -> Result<Iiop, IorFault>
     ensures { ReadsIiop (iiop_of reference.now) result }
 {
@@ -131,7 +132,7 @@ fn iiop_in(profile: &Profile) -> Option<Body<'_>>
 
 /// The body of a profile, behind the octet that tells its order.
 fn body_of(mut r: Reader<'_>) -> Option<Body<'_>>
-    ensures { option_map lent result ≡ iiop_told (front.format.reads r.entry) }
+    ensures { option_map lent result ≡ iiop_of_body (front.format.reads r.entry) }
 {
     if r.octet().ok()? != IIOP_MAJOR {
         return None;
@@ -161,7 +162,7 @@ pub fn has_iiop(reference: &Ior) -> bool
 ///
 /// # Errors
 ///
-/// `Memory` for want of memory, or where the profile would come to 2^32 octets.
+/// `Memory` when out of memory, or where the profile would come to 2^32 octets.
 pub fn make_ior(
     alloc: Global,
     id: &[u8],

@@ -4,10 +4,10 @@ ghost use Rattle.std.specs.Prelude.{codes, ◌≡◌, ◌<◌, ◌^◌, ◌++◌
 ghost use Rattle.hex.specs.Hex.{IsBytes, encode_lower};
 ghost use Rattle.std.specs.Option.{option_map, option_copied};
 ghost use Rattle.td_cdr.specs.Text.{HasNoNul};
-ghost use Rattle.td_codes.specs.References.{reference as references};
-ghost use Rattle.td_ior.specs.Enclosed.{enclosed_in, enclosing};
-ghost use Rattle.td_ior.specs.Texts.{cut_last, unmarked, parts_of, hex_form, plain_form, reference_in, ReadsText};
-ghost use Rattle.td_ior.specs.Texts.{printed};
+ghost use Rattle.td_typecode.specs.References.{reference as references};
+ghost use Rattle.td_ior.specs.Enclosed.{enclosed_in, encapsulate_value};
+ghost use Rattle.td_ior.specs.Texts.{cut_last, without_mark, parts_of, hex_form, plain_form, reference_in, ReadsText};
+ghost use Rattle.td_ior.specs.Texts.{printed_ior};
 
 use crate::enclosed::start_of;
 use crate::fault::IorFault;
@@ -29,7 +29,7 @@ const PLAIN_MINOR: u8 = 0;
 ///
 /// # Errors
 ///
-/// `NotIor` exactly where the text is in neither form; `Memory` for want of memory.
+/// `NotIor` exactly where the text is in neither form; `Memory` when out of memory.
 pub fn read_text(alloc: Global, text: &[u8]) -> Result<Ior, IorFault>
     ensures { ReadsText (reference_in text.now) result }
 {
@@ -96,8 +96,8 @@ fn cut_last(word: &[u8]) -> Option<(&[u8], &[u8])>
 }
 
 /// What follows `ref:`.
-fn unmarked(word: &[u8]) -> Option<&[u8]>
-    ensures { option_copied result ≡ unmarked word.now }
+fn without_mark(word: &[u8]) -> Option<&[u8]>
+    ensures { option_copied result ≡ without_mark word.now }
 {
     word.strip_prefix(b"ref:".as_slice())
 }
@@ -117,7 +117,7 @@ fn parts_of(text: &[u8]) -> Option<Parts<'_>>
         ≡ Some (record { id = p.id.now; host = p.host.now; port = p.port; key = p.key.now })) }
     ensures plain { IfSome result (λ p. HasNoNul p.host.now) }
 {
-    let (rest, key) = cut_last(unmarked(text)?)?;
+    let (rest, key) = cut_last(without_mark(text)?)?;
     let (rest, port) = cut_last(rest)?;
     let (id, host) = cut_last(rest)?;
     let port = port_of(port)?;
@@ -137,9 +137,9 @@ fn parts_of(text: &[u8]) -> Option<Parts<'_>>
 ///
 /// # Errors
 ///
-/// `Memory` for want of memory, or where the encapsulation would come to 2^32 octets.
+/// `Memory` when out of memory, or where the encapsulation would come to 2^32 octets.
 pub fn print_text(alloc: Global, reference: &Ior) -> Result<Text, Memory>
-    ensures printed { IfOk result (λ t. t ≡ printed reference.now) }
+    ensures printed { IfOk result (λ t. t ≡ printed_ior reference.now) }
     ensures back { IfOk result (λ t. references.format.admits reference.now
         → reference_in t ≡ Some reference.now) }
 {
@@ -159,7 +159,7 @@ fn hex_text(alloc: Global, octets: &[u8]) -> Result<Text, Memory>
 
 /// The octets of an encapsulation of the reference.
 fn enclose(alloc: Global, reference: &Ior) -> Result<Octets, Memory>
-    ensures held { IfOk result (λ o. o ≡ enclosing references reference.now) }
+    ensures held { IfOk result (λ o. o ≡ encapsulate_value references reference.now) }
     ensures short { IfOk result (λ o. length o < 2 ^ 32) }
     ensures octets { IfOk result (λ o. IsBytes o) }
 {

@@ -9,13 +9,13 @@ use Rattle.td_cdr.specs.Format.{Piece, row}
 use Rattle.td_cdr.specs.Gap.{gap, bytes_of}
 use Rattle.td_cdr.specs.Writing.{Draft, written_number}
 use Rattle.td_cdr.specs.Format.{number as number_format}
-use Rattle.td_codes.specs.Formats.{is_some}
+use Rattle.td_typecode.specs.Formats.{is_nonempty}
 use Rattle.td_iter.specs.declared.limits.TheConstants.{LARGEST_MESSAGE, REPLY_START}
 use Rattle.td_iter.specs.declared.filling.Tail.{Tail}
 use Rattle.td_iter.specs.Batches.{PutsBatch, batch}
-use Rattle.td_iter.specs.Filling.{behind, reach, end_of, Fills, counted, flagged, next_piece}
+use Rattle.td_iter.specs.Filling.{behind, reach, end_of, Fills, count_before, flag_before, next_piece}
 use Rattle.td_iter.specs.Filling.{padded_flag}
-use Rattle.td_iter.specs.Truths.{told}
+use Rattle.td_iter.specs.Truths.{content}
 use Rattle.td_iter.specs.declared.truth.Truth.{Truth}
 use Rattle.td_iter.proofs.Greatest.{greatest_of_same}
 use Rattle.td_iter.proofs.Lengths.{number-length, length-bytes_of}
@@ -41,7 +41,7 @@ patched front four new body now place e f g =
 
 -- items behind a number of four bytes
 pub counted-length : {X : Type 0} (write : X → Piece) (xs : List X) (order : Order) (place : ℕ)
-    → length (counted write xs order place) ≡ gap 4 place + 4 + length
+    → length (count_before write xs order place) ≡ gap 4 place + 4 + length
     (row (map write xs) order (place + (gap 4 place + 4)))
 counted-length write xs order place =
     let n = number-length 4 order place (length xs) in
@@ -52,7 +52,7 @@ counted-length write xs order place =
 module _ {X : Type 0} (write : X → Piece) (tail : Tail) (items : List X) where
   -- where the first items end is the same, seen from before the number and from behind it
   same-end : (old mid : Draft) → length mid.bytes ≡ length old.bytes + (gap 4 (length old.bytes) + 4)
-      → mid.order ≡ old.order → (k : ℕ) → end_of (rows write) tail items mid k ≡ end_of (counted write) tail items
+      → mid.order ≡ old.order → (k : ℕ) → end_of (rows write) tail items mid k ≡ end_of (count_before write) tail items
       old k
   same-end old mid long o k =
       let body : length (row (map write (take k items)) mid.order (length mid.bytes)) ≡ length
@@ -65,7 +65,7 @@ module _ {X : Type 0} (write : X → Piece) (tail : Tail) (items : List X) where
       → mid.bytes ≡ old.bytes ++ written_number 4 old.order (length old.bytes) 0 → mid.order ≡ old.order
       → place ≡ length mid.bytes - 4 → Fills (rows write) tail items mid n now k → now.order ≡ mid.order
       → new.bytes ≡ take place now.bytes ++ bytes_of now.order 4 k ++ drop (place + 4) now.bytes
-      → Fills (counted write) tail items old n new k
+      → Fills (count_before write) tail items old n new k
   counted-fills old mid now new n k place e o at f p set =
       let here = length old.bytes in
       let zeros = replicate (gap 4 here) 0 in
@@ -101,8 +101,8 @@ module _ {X : Type 0} (write : X → Piece) (tail : Tail) (items : List X) where
       ap (λ (r : Order). bytes_of r 4 k) (p ∙ o) ∙ ap (bytes_of old.order 4) (sym count) in
       record {
         is_greatest = greatest_of_same
-            (λ j h. subst (λ (m : ℕ). reach m (behind tail (is_some (drop j items))) ≤ LARGEST_MESSAGE) (same j) h)
-            (λ j h. subst (λ (m : ℕ). reach m (behind tail (is_some (drop j items))) ≤ LARGEST_MESSAGE)
+            (λ j h. subst (λ (m : ℕ). reach m (behind tail (is_nonempty (drop j items))) ≤ LARGEST_MESSAGE) (same j) h)
+            (λ j h. subst (λ (m : ℕ). reach m (behind tail (is_nonempty (drop j items))) ≤ LARGEST_MESSAGE)
             (sym (same j)) h) f.is_greatest;
         bytes = set ∙ patched (old.bytes ++ zeros) four (bytes_of now.order 4 k) body now.bytes place parts front
             (length-bytes_of old.order 4 0)
@@ -136,7 +136,7 @@ flag-end order b n =
 
 -- a boolean and its padding are four bytes
 flag-piece : {X : Type 0} (write : X → Piece) (order : Order) (b : Bool) (xs : List X)
-    → bytes_of order 4 (padded_flag order b) ++ counted write xs order 28 ≡ flagged write xs b order 24
+    → bytes_of order 4 (padded_flag order b) ++ count_before write xs order 28 ≡ flag_before write xs b order 24
 flag-piece write Big true xs =
     ap (λ (m : ℕ). 1 ∷ 0 ∷ 0 ∷ 0 ∷ (bytes_of Big 4 (length xs) ++ row (map write xs) Big m))
     (flag-end Big true (length xs))
@@ -156,24 +156,24 @@ module _ {X : Type 0} (truth : Truth) (write : X → Piece) (items : List X) whe
 
   -- what the truth value of the first j says
   abbrev says : ℕ → Bool
-  says j = told truth (is_some (take j items)) (is_some (drop j items))
+  says j = content truth (is_nonempty (take j items)) (is_nonempty (drop j items))
 
   flagged-end : (old mid : Draft) → length old.bytes ≡ 24 → length mid.bytes ≡ 28 → mid.order ≡ old.order → (j : ℕ)
-      → end_of (counted write) no_tail items mid j ≡ length old.bytes + length (batch (next_piece truth write) items j
+      → end_of (count_before write) no_tail items mid j ≡ length old.bytes + length (batch (next_piece truth write) items j
       old.order (length old.bytes))
   flagged-end old mid start long o j =
       let b = says j in
       let xs = take j items in
       let whole : length (batch (next_piece truth write) items j old.order (length old.bytes)) ≡ 4 + length
-      (counted write xs old.order 28) =
+      (count_before write xs old.order 28) =
       ap (λ (m : ℕ). length (batch (next_piece truth write) items j old.order m)) start
       ∙ ap length (sym (flag-piece write old.order b xs))
-      ∙ length-append (bytes_of old.order 4 (padded_flag old.order b)) (counted write xs old.order 28)
-      ∙ ap (λ (m : ℕ). m + length (counted write xs old.order 28))
+      ∙ length-append (bytes_of old.order 4 (padded_flag old.order b)) (count_before write xs old.order 28)
+      ∙ ap (λ (m : ℕ). m + length (count_before write xs old.order 28))
       (length-bytes_of old.order 4 (padded_flag old.order b)) in
-      let inner : length (counted write xs mid.order (length mid.bytes)) ≡ length (counted write xs old.order 28) =
-      ap (λ (r : Order). length (counted write xs r (length mid.bytes))) o
-      ∙ ap (λ (m : ℕ). length (counted write xs old.order m)) long in
+      let inner : length (count_before write xs mid.order (length mid.bytes)) ≡ length (count_before write xs old.order 28) =
+      ap (λ (r : Order). length (count_before write xs r (length mid.bytes))) o
+      ∙ ap (λ (m : ℕ). length (count_before write xs old.order m)) long in
       omega (arith, start, long, whole, inner)
 
   short_there : (end size : ℕ) (b : Bool) → end ≡ size → reach end (behind no_tail b) ≤ LARGEST_MESSAGE
@@ -186,7 +186,7 @@ module _ {X : Type 0} (truth : Truth) (write : X → Piece) (items : List X) whe
 
   pub next-puts : (old mid now new : Draft) (n k place : ℕ) (more : Bool) → length old.bytes ≡ REPLY_START
       → mid.bytes ≡ old.bytes ++ written_number 4 old.order (length old.bytes) 0 → mid.order ≡ old.order
-      → Fills (counted write) no_tail items mid n now k → now.order ≡ mid.order → place ≡ length old.bytes
+      → Fills (count_before write) no_tail items mid n now k → now.order ≡ mid.order → place ≡ length old.bytes
       → more ≡ says k
       → new.bytes ≡ take place now.bytes ++ bytes_of now.order 4 (padded_flag now.order more) ++ drop (place + 4)
       now.bytes → PutsBatch (next_piece truth write) items n old new k
@@ -202,18 +202,18 @@ module _ {X : Type 0} (truth : Truth) (write : X → Piece) (items : List X) whe
         length-bytes_of old.order 4 0,
         start,
       ) in
-      let body = counted write xs old.order 28 in
-      let inner : counted write xs mid.order (length mid.bytes) ≡ body =
-      ap (λ (r : Order). counted write xs r (length mid.bytes)) o
-      ∙ ap (λ (n : ℕ). counted write xs old.order n) long in
+      let body = count_before write xs old.order 28 in
+      let inner : count_before write xs mid.order (length mid.bytes) ≡ body =
+      ap (λ (r : Order). count_before write xs r (length mid.bytes)) o
+      ∙ ap (λ (n : ℕ). count_before write xs old.order n) long in
       let parts : now.bytes ≡ (old.bytes ++ four) ++ body = f.bytes
-      ∙ ap (λ (b : List ℕ). b ++ counted write xs mid.order (length mid.bytes)) same
+      ∙ ap (λ (b : List ℕ). b ++ count_before write xs mid.order (length mid.bytes)) same
       ∙ ap (λ (b : List ℕ). (old.bytes ++ four) ++ b) inner in
       record {
         is_batch = greatest_of_same
-            (λ j h. short_there (end_of (counted write) no_tail items mid j) _ (is_some (drop j items))
+            (λ j h. short_there (end_of (count_before write) no_tail items mid j) _ (is_nonempty (drop j items))
             (flagged-end old mid start long o j) h)
-            (λ j h. short_back (end_of (counted write) no_tail items mid j) _ (is_some (drop j items))
+            (λ j h. short_back (end_of (count_before write) no_tail items mid j) _ (is_nonempty (drop j items))
             (flagged-end old mid start long o j) h) f.is_greatest;
         bytes = set ∙ patched old.bytes four (bytes_of now.order 4 (padded_flag now.order more)) body now.bytes place
             parts (sym at) (length-bytes_of old.order 4 0)

@@ -8,13 +8,13 @@ use Rattle.td_cdr.specs.Format.{Piece, ◌then◌, row}
 use Rattle.td_cdr.specs.Gap.{gap}
 use Rattle.td_cdr.specs.Sound.{◌&◌, sequence, text}
 use Rattle.td_cdr.specs.Writing.{Draft}
-use Rattle.td_codes.specs.declared.reference.Ior.{Ior}
-use Rattle.td_codes.specs.Formats.{is_some}
-use Rattle.td_codes.specs.References.{reference}
+use Rattle.td_typecode.specs.declared.reference.Ior.{Ior}
+use Rattle.td_typecode.specs.Formats.{is_nonempty}
+use Rattle.td_typecode.specs.References.{reference}
 use Rattle.td_iter.specs.declared.limits.TheConstants.{LARGEST_MESSAGE, REPLY_START}
 use Rattle.td_iter.specs.declared.filling.Tail.{Tail}
 use Rattle.td_iter.specs.Batches.{PutsBatch, batch}
-use Rattle.td_iter.specs.Filling.{behind, reach, end_of, Fills, counted, first_piece}
+use Rattle.td_iter.specs.Filling.{behind, reach, end_of, Fills, count_before, first_piece}
 use Rattle.td_iter.specs.Heads.{nil, given_or_nil, IsLimit, AreLimits, IsSmallReference, hop_count, link_follow_rule}
 use Rattle.td_iter.specs.Heads.{match_card, return_card, search_card}
 use Rattle.td_iter.proofs.Greatest.{greatest_of_same}
@@ -34,15 +34,15 @@ module _ {X : Type 0} (write : X → Piece) (last : Bool → Piece) (aligned : (
   first-end : (old mid : Draft) → mid.bytes ≡ old.bytes → mid.order ≡ old.order
       → ((b : Bool) (order : Order) (here : ℕ) → reach here (behind tail b) ≡ here + length (last b order here))
       → (j : ℕ)
-      → reach (end_of (counted write) tail items mid j) (behind tail (is_some (drop j items))) ≡ length old.bytes +
+      → reach (end_of (count_before write) tail items mid j) (behind tail (is_nonempty (drop j items))) ≡ length old.bytes +
       length (batch (first_piece write last) items j old.order (length old.bytes))
   first-end old mid e o sizes j =
-      let b = is_some (drop j items) in
+      let b = is_nonempty (drop j items) in
       let here = length old.bytes in
-      let front = counted write (take j items) old.order here in
-      let same : end_of (counted write) tail items mid j ≡ here + length front =
-      ap (λ (bytes : List ℕ). length bytes + length (counted write (take j items) mid.order (length bytes))) e
-      ∙ ap (λ (r : Order). here + length (counted write (take j items) r here)) o in
+      let front = count_before write (take j items) old.order here in
+      let same : end_of (count_before write) tail items mid j ≡ here + length front =
+      ap (λ (bytes : List ℕ). length bytes + length (count_before write (take j items) mid.order (length bytes))) e
+      ∙ ap (λ (r : Order). here + length (count_before write (take j items) r here)) o in
       ap (λ (end : ℕ). reach end (behind tail b)) same ∙ sizes b old.order (here + length front)
       ∙ (let whole : (here + length front) + length (last b old.order (here + length front)) ≡ here + length
       (front ++ last b old.order (here + length front)) =
@@ -50,18 +50,18 @@ module _ {X : Type 0} (write : X → Piece) (last : Bool → Piece) (aligned : (
 
   pub first-puts : (old mid now new : Draft) (n k : ℕ) (om od : Order) (pm pd : ℕ) → pm % 4 ≡ 0 → pd % 4 ≡ 0
       → tail.more ≡ length (last true om pm) → tail.done ≡ length (last false od pd)
-      → mid.bytes ≡ old.bytes → mid.order ≡ old.order → Fills (counted write) tail items mid n now k
+      → mid.bytes ≡ old.bytes → mid.order ≡ old.order → Fills (count_before write) tail items mid n now k
       → now.order ≡ mid.order
-      → new.bytes ≡ now.bytes ++ last (is_some (drop k items)) now.order (length now.bytes)
+      → new.bytes ≡ now.bytes ++ last (is_nonempty (drop k items)) now.order (length now.bytes)
       → PutsBatch (first_piece write last) items n old new k
   first-puts old mid now new n k om od pm pd em ed m d e o f p put =
-      let b = is_some (drop k items) in
+      let b = is_nonempty (drop k items) in
       let here = length old.bytes in
-      let front = counted write (take k items) old.order here in
+      let front = count_before write (take k items) old.order here in
       let ends = first-end old mid e o (size-of om od pm pd em ed m d) in
       let held : now.bytes ≡ old.bytes ++ front =
-      f.bytes ∙ ap (λ (bytes : List ℕ). bytes ++ counted write (take k items) mid.order (length bytes)) e
-      ∙ ap (λ (r : Order). old.bytes ++ counted write (take k items) r here) o in
+      f.bytes ∙ ap (λ (bytes : List ℕ). bytes ++ count_before write (take k items) mid.order (length bytes)) e
+      ∙ ap (λ (r : Order). old.bytes ++ count_before write (take k items) r here) o in
       record {
         is_batch = greatest_of_same (λ j h. subst (λ (end : ℕ). end ≤ LARGEST_MESSAGE) (ends j) h)
             (λ j h. subst (λ (end : ℕ). end ≤ LARGEST_MESSAGE) (sym (ends j)) h) f.is_greatest;
@@ -102,7 +102,7 @@ abbrev pub ending : List (List ℕ) → Ior → Piece
 ending limits r = (reference & sequence text).format.writes (r, limits)
 
 pub ending-aligned : (limits : List (List ℕ)) (r : Ior) → Aligned (ending limits r)
-ending-aligned limits r = then-aligned (reference.format.writes r) (counted text.format.writes limits)
+ending-aligned limits r = then-aligned (reference.format.writes r) (count_before text.format.writes limits)
     (reference-aligned r) (counted-aligned text.format.writes text-aligned limits)
 
 pub nil-small : IsSmallReference nil
@@ -121,7 +121,7 @@ ending-short limits r named small order place =
       arith,
       named.few,
       reference-short r small order place,
-      length-append first (counted text.format.writes limits order next),
+      length-append first (count_before text.format.writes limits order next),
       counted-length text.format.writes limits
           order next,
       limits-short limits named.each order (next + (gap 4 next + 4)),

@@ -9,18 +9,18 @@ use Rattle.td_cdr.specs.Format.{Piece, row}
 use Rattle.td_cdr.specs.Gap.{gap}
 use Rattle.td_cdr.specs.Sound.{text}
 use Rattle.td_cdr.specs.Writing.{Draft}
-use Rattle.td_codes.specs.declared.reference.Ior.{Ior}
+use Rattle.td_typecode.specs.declared.reference.Ior.{Ior}
 use Rattle.td_cdr.specs.Format.{number as number_format}
-use Rattle.td_codes.specs.Formats.{is_some}
-use Rattle.td_codes.specs.References.{reference}
+use Rattle.td_typecode.specs.Formats.{is_nonempty}
+use Rattle.td_typecode.specs.References.{reference}
 use Rattle.td_value.specs.declared.structures.Offer.{Offer}
 use Rattle.td_value.specs.Structures.{offer}
 use Rattle.td_iter.specs.declared.limits.TheConstants.{REPLY_START}
 use Rattle.td_iter.specs.Batches.{PutsBatch, GivesBatch, FitsMessage}
-use Rattle.td_iter.specs.Filling.{counted, next_piece, first_piece}
+use Rattle.td_iter.specs.Filling.{count_before, next_piece, first_piece}
 use Rattle.td_iter.specs.Heads.{given_or_nil, items_found, offers_found, AreShort, AreSmallIds, AreSmallOffers}
 use Rattle.td_iter.specs.Heads.{AreLimits, IsShort, IsSmallReference}
-use Rattle.td_iter.specs.Truths.{told}
+use Rattle.td_iter.specs.Truths.{content}
 use Rattle.td_iter.specs.declared.truth.Truth.{Truth}
 use Rattle.td_iter.proofs.Lengths.{number-length}
 use Rattle.td_iter.proofs.Counting.{counted-length}
@@ -39,7 +39,7 @@ module _ {X : Type 0} (head : List X → Bool → Piece) (left slice rest : List
   pub within : slice ≡ left → Puts slice → k ≤ length left
   within s p = (let q = subst Puts s p in q.is_batch.there)
 
-  pub gives-batch : slice ≡ left → Puts slice → rest ≡ drop k left → (more : Bool) → more ≡ is_some rest
+  pub gives-batch : slice ≡ left → Puts slice → rest ≡ drop k left → (more : Bool) → more ≡ is_nonempty rest
       → GivesBatch head left n rest old new more
   gives-batch s p r more m = record { count = k; puts = subst Puts s p; rest_is = r; more_is = m }
 
@@ -70,7 +70,7 @@ one-row p order place = length-append (p order place) []
 
 module _ {X : Type 0} (write : X → Piece) (x : X) (xs : List X) (old : Draft)
     (start : length old.bytes ≡ REPLY_START) (small : (place : ℕ) → length (write x old.order place) ≤ 12582912) where
-  one-counted : (place : ℕ) → length (counted write (x ∷ []) old.order place) ≤ 12582919
+  one-counted : (place : ℕ) → length (count_before write (x ∷ []) old.order place) ≤ 12582919
   one-counted place =
       let inner = place + (gap 4 place + 4) in
       omega (arith, counted-length write (x ∷ []) old.order place, one-row (write x) old.order inner, small inner)
@@ -79,8 +79,8 @@ module _ {X : Type 0} (write : X → Piece) (x : X) (xs : List X) (old : Draft)
       → FitsMessage (first_piece write last) (x ∷ xs) old 1
   first-one last short =
       let here = length old.bytes in
-      let front = counted write (x ∷ []) old.order here in
-      let b = is_some xs in
+      let front = count_before write (x ∷ []) old.order here in
+      let b = is_nonempty xs in
       omega (
         arith,
         start,
@@ -92,14 +92,14 @@ module _ {X : Type 0} (write : X → Piece) (x : X) (xs : List X) (old : Draft)
   pub next-one : (truth : Truth) → FitsMessage (next_piece truth write) (x ∷ xs) old 1
   next-one truth =
       let here = length old.bytes in
-      let b = told truth true (is_some xs) in
+      let b = content truth true (is_nonempty xs) in
       let front = (number_format 1).writes (from_bool b) old.order here in
       omega (
         arith,
         start,
         number-length 1 old.order here (from_bool b),
         one-counted (here + length front),
-        length-append front (counted write (x ∷ []) old.order (here + length front)),
+        length-append front (count_before write (x ∷ []) old.order (here + length front)),
       )
 
 -- an offer of at most 6 MiB, written big-endian from place 0, is short

@@ -1,7 +1,7 @@
 -- The greatest number of which something holds: there is one, and one only.
 use Rattle.std.proofs.Common.{◌≡◌, ℕ, zero, suc, ◌≤◌, Bool, true, false, List, [], ◌∷◌, ◌++◌, take, drop, nat_le, min}
 use Rattle.std.proofs.Common.{refl, ap, ◌∙◌, arith, append_assoc}
-use Rattle.td_iter.specs.Batches.{IsGreatest, Batches, ended, given, concatenated}
+use Rattle.td_iter.specs.Batches.{IsGreatest, Batches, ended, given, join_lists}
 
 pub greatest_is_one : {Holds : ℕ → Type 0} {n all j k : ℕ} → IsGreatest Holds n all j → IsGreatest Holds n all k → j ≡ k
 greatest_is_one {j = j} {k = k} g h =
@@ -74,8 +74,8 @@ take-drop (suc k) [] = refl
 take-drop {X = X} (suc k) (x ∷ xs) = ap (λ (ys : List X). x ∷ ys) (take-drop k xs)
 
 pub batches_whole : {X : Type 0} (left rest : List X) (batches : List (List X)) → Batches left batches rest
-    → concatenated batches ++ rest ≡ left
+    → join_lists batches ++ rest ≡ left
 batches_whole left rest batches ended = refl
 batches_whole {X = X} left rest batches (given {batches = later} head draft n k b more) =
-    append_assoc (take k left) (concatenated later) rest
+    append_assoc (take k left) (join_lists later) rest
     ∙ ap (λ (ys : List X). take k left ++ ys) (batches_whole (drop k left) rest later more) ∙ take-drop k left

@@ -10,15 +10,15 @@ use Rattle.td_cdr.specs.Gap.{gap, bytes_of}
 use Rattle.td_cdr.specs.Format.{Piece, ◌then◌, row}
 use Rattle.td_cdr.specs.Writing.{written_number, written_octets}
 use Rattle.td_cdr.specs.Sound.{text}
-use Rattle.td_codes.specs.declared.reference.Ior.{Ior}
-use Rattle.td_codes.specs.declared.reference.Profile.{Profile}
+use Rattle.td_typecode.specs.declared.reference.Ior.{Ior}
+use Rattle.td_typecode.specs.declared.reference.Profile.{Profile}
 use Rattle.td_cdr.specs.Format.{number as number_format}
-use Rattle.td_codes.specs.declared.code.Value.{Value}
-use Rattle.td_codes.specs.declared.label.Label.{Label}
-use Rattle.td_codes.specs.declared.label.Label.TheVariants.{One, Two, Four, Eight}
-use Rattle.td_codes.specs.Labels.{label_of, label_piece, plain_piece}
-use Rattle.td_codes.specs.References.{reference, profile}
-use Rattle.td_iter.specs.Filling.{counted}
+use Rattle.td_typecode.specs.declared.code.Value.{Value}
+use Rattle.td_typecode.specs.declared.label.Label.{Label}
+use Rattle.td_typecode.specs.declared.label.Label.TheVariants.{One, Two, Four, Eight}
+use Rattle.td_typecode.specs.Labels.{label_of, label_piece, plain_piece}
+use Rattle.td_typecode.specs.References.{reference, profile}
+use Rattle.td_iter.specs.Filling.{count_before}
 
 pub length-bytes_of : (order : Order) (size v : ℕ) → length (bytes_of order size v) ≡ size
 length-bytes_of Big size v = length-bytes_high_first size v
@@ -105,7 +105,7 @@ all-mapped : {X : Type 0} (P : Piece → Type 0) (f : X → Piece) → ((x : X) 
 all-mapped P f h [] = tt
 all-mapped P f h (x ∷ xs) = (h x, all-mapped P f h xs)
 
-pub counted-aligned : {X : Type 0} (f : X → Piece) → ((x : X) → Aligned (f x)) → (xs : List X) → Aligned (counted f xs)
+pub counted-aligned : {X : Type 0} (f : X → Piece) → ((x : X) → Aligned (f x)) → (xs : List X) → Aligned (count_before f xs)
 counted-aligned f h xs = row-aligned ((number_format 4).writes (length xs)) (map f xs) (number-aligned (length xs))
     (all-mapped Aligned f h xs)
 
@@ -117,7 +117,7 @@ profile-aligned p = then-aligned ((number_format 4).writes p.tag) (λ order plac
     (number-aligned p.tag) (octets-aligned p.octets)
 
 pub reference-aligned : (r : Ior) → Aligned (reference.format.writes r)
-reference-aligned r = then-aligned (text.format.writes r.id) (counted profile.format.writes r.profiles)
+reference-aligned r = then-aligned (text.format.writes r.id) (count_before profile.format.writes r.profiles)
     (text-aligned r.id) (counted-aligned profile.format.writes profile-aligned r.profiles)
 
 -- ---- pieces that are at most twice as long in one place as in another
@@ -164,7 +164,7 @@ row-steady (p ∷ ps) all = then-steady p (row ps) all.0 (row-steady ps all.1)
 pub rows-steady : {X : Type 0} (f : X → Piece) → ((x : X) → Steady (f x)) → (xs : List X) → Steady (row (map f xs))
 rows-steady f h xs = row-steady (map f xs) (all-mapped Steady f h xs)
 
-pub counted-steady : {X : Type 0} (f : X → Piece) → ((x : X) → Steady (f x)) → (xs : List X) → Steady (counted f xs)
+pub counted-steady : {X : Type 0} (f : X → Piece) → ((x : X) → Steady (f x)) → (xs : List X) → Steady (count_before f xs)
 counted-steady f h xs = then-steady ((number_format 4).writes (length xs)) (row (map f xs)) (four-steady (length xs))
     (rows-steady f h xs)
 
@@ -176,7 +176,7 @@ profile-steady p = then-steady ((number_format 4).writes p.tag) (λ order place.
     (four-steady p.tag) (octets-steady p.octets)
 
 pub reference-steady : (r : Ior) → Steady (reference.format.writes r)
-reference-steady r = then-steady (text.format.writes r.id) (counted profile.format.writes r.profiles)
+reference-steady r = then-steady (text.format.writes r.id) (count_before profile.format.writes r.profiles)
     (text-steady r.id) (counted-steady profile.format.writes profile-steady r.profiles)
 
 pub label-steady : (l : Label) → Steady (label_piece l)

@@ -8,13 +8,13 @@ use Rattle.td_cdr.specs.declared.order.Order.{Order}
 use Rattle.td_cdr.specs.Format.{Piece, row}
 use Rattle.td_cdr.specs.Writing.{Draft}
 use Rattle.td_cdr.proofs.SequenceWriting.{goes_on}
-use Rattle.td_codes.specs.Formats.{is_some}
+use Rattle.td_typecode.specs.Formats.{is_nonempty}
 use Rattle.td_iter.specs.declared.limits.TheConstants.{LARGEST_MESSAGE}
 use Rattle.td_iter.specs.declared.filling.Tail.{Tail}
 use Rattle.td_iter.specs.declared.filling.Front.{Front}
 use Rattle.td_iter.specs.Filling.{behind, reach, end_of, FitsTail, Fills}
 
-pub some-left : {X : Type 0} (k : ℕ) (xs : List X) → is_some (drop k xs) ≡ nat_lt k (length xs)
+pub some-left : {X : Type 0} (k : ℕ) (xs : List X) → is_nonempty (drop k xs) ≡ nat_lt k (length xs)
 some-left zero [] = refl
 some-left zero (x ∷ xs) = grind arith
 some-left (suc k) [] = grind arith
@@ -22,7 +22,7 @@ some-left (suc k) (x ∷ xs) = some-left k xs ∙ (let less : nat_lt k (length x
     grind arith in less)
 
 -- whether the first k are any
-pub some-taken : {X : Type 0} (k : ℕ) (xs : List X) → k ≤ length xs → is_some (take k xs) ≡ nat_lt 0 k
+pub some-taken : {X : Type 0} (k : ℕ) (xs : List X) → k ≤ length xs → is_nonempty (take k xs) ≡ nat_lt 0 k
 some-taken zero xs le = grind arith
 some-taken (suc k) [] le = absurd (let no : ⊥ = omega (arith, le) in no)
 some-taken (suc k) (x ∷ xs) le = grind arith
@@ -111,18 +111,18 @@ module _ {X : Type 0} (write : X → Piece) (tail : Tail) (items : List X) (old 
   so_far-by : (now next : Draft) (i : ℕ) (best : Front) (b : Bool) → SoFar now i best.count best.end
       → next.bytes ≡ old.bytes ++ row (map write (take (i + 1) items)) old.order (length old.bytes)
       → next.order ≡ old.order
-      → fits_now (length next.bytes) (is_some (drop (i + 1) items)) ≡ b → let r : Front =
+      → fits_now (length next.bytes) (is_nonempty (drop (i + 1) items)) ≡ b → let r : Front =
       (if b then record { count = i + 1; end = length next.bytes } else best) in SoFar next (i + 1) r.count r.end
   so_far-by now next i best true s e o f =
       let long = end-length next (i + 1) e in
       let good : FitsTail (rows write) tail items old (i + 1) =
-      subst (λ (here : ℕ). reach here (behind tail (is_some (drop (i + 1) items))) ≤ LARGEST_MESSAGE) long
+      subst (λ (here : ℕ). reach here (behind tail (is_nonempty (drop (i + 1) items))) ≤ LARGEST_MESSAGE) long
       (le-of f) in
       record { bytes = e; order = o; within = omega arith; fits = good; longest = λ j le g. le; ends_there = long }
   so_far-by now next i best false s e o f =
       let long = end-length next (i + 1) e in
       let bad : FitsTail (rows write) tail items old (i + 1) → ⊥ =
-      λ g. not_le-of f (subst (λ (here : ℕ). reach here (behind tail (is_some (drop (i + 1) items))) ≤
+      λ g. not_le-of f (subst (λ (here : ℕ). reach here (behind tail (is_nonempty (drop (i + 1) items))) ≤
       LARGEST_MESSAGE) (sym long) g) in
       record {
         bytes = e;
@@ -153,9 +153,9 @@ module _ {X : Type 0} (write : X → Piece) (tail : Tail) (items : List X) (old 
       let step : next.bytes ≡ now.bytes ++ write m old.order (length now.bytes) = e
       ∙ ap (λ (q : Order). now.bytes ++ write m q (length now.bytes)) s.order in
       let grown = goes_on write items i m old.order old.bytes now.bytes next.bytes lt is s.bytes step in
-      let long : size ≡ behind tail (is_some (drop (i + 1) items)) = z
+      let long : size ≡ behind tail (is_nonempty (drop (i + 1) items)) = z
       ∙ ap (behind tail) (sym (some-left (i + 1) items)) in
-      let whole : r ≡ (if fits_now (length next.bytes) (is_some (drop (i + 1) items)) then record {
+      let whole : r ≡ (if fits_now (length next.bytes) (is_nonempty (drop (i + 1) items)) then record {
         count =
             i + 1;
         end = length next.bytes;
@@ -166,7 +166,7 @@ module _ {X : Type 0} (write : X → Piece) (tail : Tail) (items : List X) (old 
             p.0;
       } else best) (ap (λ (a : ℕ). (a, size)) h ∙ ap (λ (a : ℕ). (length next.bytes, a)) long) in
       subst (λ (p : Front). SoFar next (i + 1) p.count p.end) (sym whole)
-      (so_far-by now next i best (fits_now (length next.bytes) (is_some (drop (i + 1) items))) s grown (o
+      (so_far-by now next i best (fits_now (length next.bytes) (is_nonempty (drop (i + 1) items))) s grown (o
       ∙ s.order) refl)
 
   pub so_far-long : (now : Draft) (i count end : ℕ) → SoFar now i count end → end ≤ length now.bytes

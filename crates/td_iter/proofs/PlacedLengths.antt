@@ -8,22 +8,25 @@ use Rattle.td_cdr.specs.Gap.{flag}
 use Rattle.td_cdr.specs.Format.{Piece, none, row, ◌then◌, number, text, nth}
 use Rattle.td_indirection.specs.States.{empty}
 use Rattle.tc_graph.specs.declared.node.Node.{Node}
-use Rattle.td_codes.specs.declared.code.TypeCode.TheOpen as c
-use Rattle.td_codes.specs.declared.kinds.CodeKind.{CodeKind}
-use Rattle.td_codes.specs.declared.kinds.CodeKind.TheVariants as kind
-use Rattle.td_codes.specs.declared.mode.Mode.TheVariants.{Outer}
-use Rattle.td_codes.specs.Kinds.{number_of, indirection}
-use Rattle.td_codes.specs.Labels.{plain_piece}
-use Rattle.td_codes.specs.WritingCodes.{header_piece, head_piece}
+use Rattle.td_typecode.specs.declared.code.TypeCode.TheOpen as c
+use Rattle.td_typecode.specs.declared.kinds.CodeKind.{CodeKind}
+use Rattle.td_typecode.specs.declared.kinds.CodeKind.TheVariants as kind
+use Rattle.td_typecode.specs.declared.mode.Mode.TheVariants.{Outer}
+use Rattle.td_typecode.specs.Kinds.{number_of, indirection}
+use Rattle.td_typecode.specs.Labels.{plain_piece}
+use Rattle.td_typecode.specs.WritingCodes.{header_piece, head_piece}
 use Rattle.std.specs.Int.{w32, cast_unsigned}
-use Rattle.td_codes.specs.Known.{Known, MemberNode, ArmNode, Numbers}
-use Rattle.td_codes.specs.GraphKnown.{known_of}
-use Rattle.td_codes.specs.NodeWriting.{PlacedPiece, plainly, and_then, placed_row, enclosed_piece, long_place, enum_piece}
-use Rattle.td_codes.specs.NodeWriting.{member_placed, arm_placed, members_placed, fields_placed, front_placed, arms_placed}
-use Rattle.td_codes.specs.NodeWriting.{items_placed, inside_placed, layer_placed, known_placed, kind_placed, long_placed}
-use Rattle.td_codes.specs.NodeWriting.{node_or_indirection, begins_at, edge_placed}
-use Rattle.td_codes.specs.Outermost.{graph_piece}
-use Rattle.td_codes.proofs.PlacedPieces.{edges-placed}
+use Rattle.td_typecode.specs.Known.{KnownNode, MemberNode, ArmNode, Numbers}
+use Rattle.td_typecode.specs.GraphKnown.{known_of}
+use Rattle.td_typecode.specs.NodeWriting.{PlacedPiece, plainly, and_then, placed_row, enclosed_piece, long_place}
+use Rattle.td_typecode.specs.NodeWriting.{enum_piece}
+use Rattle.td_typecode.specs.NodeWriting.{member_placed, arm_placed, members_placed, fields_placed, front_placed}
+use Rattle.td_typecode.specs.NodeWriting.{arms_placed}
+use Rattle.td_typecode.specs.NodeWriting.{items_placed, inside_placed, layer_placed, known_placed, kind_placed}
+use Rattle.td_typecode.specs.NodeWriting.{long_placed}
+use Rattle.td_typecode.specs.NodeWriting.{node_or_indirection, begins_at, edge_placed}
+use Rattle.td_typecode.specs.Outermost.{graph_piece}
+use Rattle.td_typecode.proofs.PlacedPieces.{edges-placed}
 use Rattle.td_iter.proofs.Lengths.{Steady, four-steady, none-steady, then-steady, rows-steady, text-steady, plain-steady}
 use Rattle.td_iter.proofs.Lengths.{number-length, octets-length}
 
@@ -188,7 +191,7 @@ long-steady j = record {
   same = λ a b ps qs o u place base e. e;
 }
 
-node-steady : (inner : ℕ → PlacedPiece) → ((j : ℕ) → IsSteady (inner j)) → (j : ℕ) (n : Option Known)
+node-steady : (inner : ℕ → PlacedPiece) → ((j : ℕ) → IsSteady (inner j)) → (j : ℕ) (n : Option KnownNode)
     → IsSteady (node_or_indirection inner j n)
 node-steady inner each j (Some n) =
     and_then-steady (kind_placed n.kind) (known_placed inner n.layer) (kind-steady n.kind)
@@ -197,24 +200,24 @@ node-steady inner each j None =
     and_then-steady (plainly ((number 4).writes indirection)) (long_placed j)
     (plainly-steady ((number 4).writes indirection) (four-steady indirection)) (long-steady j)
 
-edge-steady : (levels : ℕ) (graph : List Known) (j : ℕ) → IsSteady (edge_placed levels graph j)
+edge-steady : (levels : ℕ) (graph : List KnownNode) (j : ℕ) → IsSteady (edge_placed levels graph j)
 edge-steady zero graph j = record {
   long = λ a b ps qs o u place base e. (four-steady (number_of kind.Null)).long o u place base;
   same = λ a b ps qs o u place base e. e;
 }
 edge-steady (suc levels) graph j =
     let inner : ℕ → PlacedPiece = edge_placed levels graph in
-    let node : List ℕ → Option Known = begins_at graph j in
+    let node : List ℕ → Option KnownNode = begins_at graph j in
     let alike : (ps qs : List ℕ) → length ps ≡ length qs → node qs ≡ node ps =
     λ ps qs e. ap (λ (n : ℕ). cond (nat_eq j n) (nth graph j) None) (sym e) in
     record {
       long = λ a b ps qs o u place base e.
-          subst (λ (x : Option Known). length (node_or_indirection inner j (node ps) a ps o place).0
+          subst (λ (x : Option KnownNode). length (node_or_indirection inner j (node ps) a ps o place).0
           ≤ 2 * length (node_or_indirection inner j x b qs u base).0)
           (sym (alike ps qs e))
           ((node-steady inner (edge-steady levels graph) j (node ps)).long a b ps qs o u place base e);
       same = λ a b ps qs o u place base e.
-          subst (λ (x : Option Known). length (node_or_indirection inner j (node ps) a ps o place).1
+          subst (λ (x : Option KnownNode). length (node_or_indirection inner j (node ps) a ps o place).1
           ≡ length (node_or_indirection inner j x b qs u base).1)
           (sym (alike ps qs e))
           ((node-steady inner (edge-steady levels graph) j (node ps)).same a b ps qs o u place base e);

@@ -4,37 +4,38 @@ use Rattle.td_cdr.specs.declared.value_fault.ValueFault.{ValueFault}
 use Rattle.td_cdr.specs.Gap.{flag}
 use Rattle.td_cdr.specs.Format.{Piece, none_or, ◌then◌, row}
 use Rattle.td_cdr.specs.Sound.{Sound, text, either, failure}
-use Rattle.td_codes.specs.declared.code.TypeCode.{TypeCode, TypeCode-F, out-TypeCode, ind-TypeCode, map-TypeCode}
-use Rattle.td_codes.specs.declared.code.TypeCode.{roll-TypeCode, out-roll-TypeCode}
-use Rattle.td_codes.specs.WritingCodes.{code_piece, arm_piece, member_piece, layer_pieces, code_piece-layer}
-use Rattle.td_codes.specs.WritingCodes.{arm_piece-is, member_piece-is, code_layer, kind_piece, header_piece}
-use Rattle.td_codes.specs.WritingCodes.{head_piece, encapsulation_piece}
-use Rattle.td_codes.specs.declared.kinds.CodeKind.{CodeKind}
-use Rattle.td_codes.specs.declared.kinds.CodeKind.TheVariants as kind
-use Rattle.td_codes.specs.Kinds.{number_of}
+use Rattle.td_typecode.specs.declared.code.TypeCode.{TypeCode, TypeCode-F, out-TypeCode, ind-TypeCode, map-TypeCode}
+use Rattle.td_typecode.specs.declared.code.TypeCode.{roll-TypeCode, out-roll-TypeCode}
+use Rattle.td_typecode.specs.WritingCodes.{code_piece, arm_piece, member_piece, layer_pieces, code_piece-layer}
+use Rattle.td_typecode.specs.WritingCodes.{arm_piece-is, member_piece-is, code_layer, kind_piece, header_piece}
+use Rattle.td_typecode.specs.WritingCodes.{head_piece, encapsulation_piece}
+use Rattle.td_typecode.specs.declared.kinds.CodeKind.{CodeKind}
+use Rattle.td_typecode.specs.declared.kinds.CodeKind.TheVariants as kind
+use Rattle.td_typecode.specs.Kinds.{number_of}
 use Rattle.std.specs.Int.{w32, cast_unsigned}
 use Rattle.tc_graph.specs.declared.node.Node.{Node}
 use Rattle.tc_edges.specs.declared.edges.Edge.{Edge}
-use Rattle.td_codes.specs.NodeLabels.{along, most_levels}
-use Rattle.td_codes.specs.EdgeLayers.{EdgeLayer, node_layer}
-use Rattle.td_codes.specs.NodeValues.{node_parts, value_of_node, value_at_node}
-use Rattle.td_codes.specs.Outermost.{outer, outer_layer}
+use Rattle.td_typecode.specs.NodeLabels.{along, most_levels}
+use Rattle.td_typecode.specs.EdgeLayers.{EdgeLayer, node_layer}
+use Rattle.td_typecode.specs.NodeValues.{node_parts, value_of_node, value_at_node}
+use Rattle.td_typecode.specs.Outermost.{outer, outer_layer}
 use Rattle.td_value.specs.declared.structures.Offer.{Offer}
 use Rattle.td_value.specs.declared.structures.Property.{Property}
 use Rattle.td_value.specs.Structures.{offer, property}
-use Rattle.td_codes.specs.declared.code.TypeCode.TheOpen as c
-use Rattle.td_codes.specs.declared.code.Value.{Value, out-Value}
-use Rattle.td_codes.specs.declared.code.Any.{Any}
-use Rattle.td_codes.specs.declared.code.Arm.{Arm, roll-Arm}
-use Rattle.td_codes.specs.declared.code.Member.{Member, roll-Member}
+use Rattle.td_typecode.specs.declared.code.TypeCode.TheOpen as c
+use Rattle.td_typecode.specs.declared.code.Value.{Value, out-Value}
+use Rattle.td_typecode.specs.declared.code.Any.{Any}
+use Rattle.td_typecode.specs.declared.code.Arm.{Arm, roll-Arm}
+use Rattle.td_typecode.specs.declared.code.Member.{Member, roll-Member}
 use Rattle.td_cdr.specs.Format.{number as number_format}
-use Rattle.td_codes.specs.Labels.{Layer, Held, no_value, label_of, label_piece, plain_piece}
-use Rattle.td_codes.specs.References.{reference}
-use Rattle.td_codes.specs.ValueLayers.{Parts, index_of, branch_labelled, each, branch_piece, union_piece, items_piece}
-use Rattle.td_codes.specs.ValueLayers.{sequence_piece, layer, text_in, any_in, code_in, reference_in, struct_in}
-use Rattle.td_codes.specs.ValueLayers.{items_in}
-use Rattle.td_codes.specs.Values.{code_parts, values, code_values, graph_values, left, anys, behind, any_value}
-use Rattle.td_iter.specs.Filling.{counted}
+use Rattle.td_typecode.specs.Labels.{Layer, ValueLayer, no_value, label_of, label_piece, plain_piece}
+use Rattle.td_typecode.specs.References.{reference}
+use Rattle.td_typecode.specs.ValueLayers.{LayerParts, index_of, branch_labelled, each, branch_piece, union_piece}
+use Rattle.td_typecode.specs.ValueLayers.{items_piece}
+use Rattle.td_typecode.specs.ValueLayers.{sequence_piece, layer, text_in, any_in, code_in, reference_in, struct_in}
+use Rattle.td_typecode.specs.ValueLayers.{items_in}
+use Rattle.td_typecode.specs.Values.{code_parts, values, code_values, graph_values, left, anys, behind, any_value}
+use Rattle.td_iter.specs.Filling.{count_before}
 use Rattle.td_iter.proofs.Lengths.{Steady, four-steady, octets-length, label-steady, plain-steady}
 use Rattle.td_iter.proofs.Lengths.{none-steady, then-steady, rows-steady, counted-steady, text-steady, reference-steady}
 use Rattle.td_iter.proofs.PlacedLengths.{graph_piece-steady}
@@ -45,7 +46,7 @@ or_none-steady write h (Some x) = h x
 or_none-steady write h None = none-steady
 
 -- whatever stands for the TypeCodes in a layer
-module _ {T R M : Type 0} (parts : Parts T R M) (any : Sound ValueFault Any) (code : Sound ValueFault TypeCode)
+module _ {T R M : Type 0} (parts : LayerParts T R M) (any : Sound ValueFault Any) (code : Sound ValueFault TypeCode)
     (inner : T → Sound ValueFault Value)
     (any-steady : (a : Any) → Steady (any.format.writes a)) (code-steady : (t : TypeCode)
     → Steady (code.format.writes t))
@@ -62,7 +63,7 @@ module _ {T R M : Type 0} (parts : Parts T R M) (any : Sound ValueFault Any) (co
   branch-steady (Some chosen) None = none-steady
   branch-steady (Some chosen) (Some v) = inner-steady (parts.arm_code chosen) v
 
-  union-steady : (default : Option ℕ) (arms : List R) (l : Held)
+  union-steady : (default : Option ℕ) (arms : List R) (l : ValueLayer)
       → Steady (union_piece parts any code inner default arms l)
   union-steady default arms (c.Value::Union label arm) =
       then-steady (plain_piece label)
@@ -291,5 +292,5 @@ property-steady p = then-steady (text.format.writes p.name) (any_value.format.wr
     (anys-steady 16 p.value)
 
 pub offer-steady : (o : Offer) → Steady (offer.format.writes o)
-offer-steady o = then-steady (reference.format.writes o.reference) (counted property.format.writes o.properties)
+offer-steady o = then-steady (reference.format.writes o.reference) (count_before property.format.writes o.properties)
     (reference-steady o.reference) (counted-steady property.format.writes property-steady o.properties)

@@ -5,15 +5,15 @@ use Rattle.std.proofs.Math.Seq.{drop-length}
 use Rattle.std.proofs.lemmas.Bool.{both_ways}
 use Rattle.td_cdr.specs.Format.{Piece}
 use Rattle.td_cdr.specs.Writing.{Draft}
-use Rattle.td_codes.specs.Formats.{is_some}
-use Rattle.td_codes.specs.declared.reference.Ior.{Ior}
+use Rattle.td_typecode.specs.Formats.{is_nonempty}
+use Rattle.td_typecode.specs.declared.reference.Ior.{Ior}
 use Rattle.td_iter.specs.Batches.{PutsBatch, PutsWhole, GivesWhole, IsBatch, batch}
 use Rattle.td_iter.specs.Heads.{given_or_nil, nil, offers_found}
 use Rattle.td_iter.specs.declared.limits.TheConstants.{LARGEST_MESSAGE}
 use Rattle.td_iter.proofs.Loading.{some-left}
 use Rattle.td_value.specs.declared.structures.Offer.{Offer}
 
-none-behind : (offers : List Offer) → is_some (drop (length offers) offers) ≡ false
+none-behind : (offers : List Offer) → is_nonempty (drop (length offers) offers) ≡ false
 none-behind offers = some-left (length offers) offers
     ∙ (let no : nat_lt (length offers) (length offers) ≡ false = grind arith in no)
 

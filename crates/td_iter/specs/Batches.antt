@@ -4,7 +4,7 @@ use Rattle.std.specs.Prelude.{◌≡◌, ℕ, ◌+◌, ◌≤◌, Bool, true, fa
 use Rattle.std.specs.Prelude.{drop}
 use Rattle.td_cdr.specs.Format.{Piece}
 use Rattle.td_cdr.specs.Writing.{Draft}
-use Rattle.td_codes.specs.Formats.{is_some}
+use Rattle.td_typecode.specs.Formats.{is_nonempty}
 use Rattle.td_iter.specs.declared.limits.TheConstants.{LARGEST_MESSAGE}
 
 -- k is the greatest number of which this holds, up to n and up to all
@@ -15,13 +15,13 @@ pub record IsGreatest (Holds : ℕ → Type 0) (n all k : ℕ) : Type 0 where
   pub greatest : (j : ℕ) → j ≤ n → j ≤ all → Holds j → j ≤ k
 
 -- a result that has these items, and tells whether some are left behind them
-abbrev pub Head : Type 0 → Type 0
-Head X = List X → Bool → Piece
+abbrev pub BatchHead : Type 0 → Type 0
+BatchHead X = List X → Bool → Piece
 
 module _ {X : Type 0} (head : List X → Bool → Piece) (left : List X) where
   -- the result that has the first k of what is left
   abbrev pub batch : ℕ → Piece
-  batch k = head (take k left) (is_some (drop k left))
+  batch k = head (take k left) (is_nonempty (drop k left))
 
   -- behind what a draft holds, its message has a size field of at most 16 MiB
   abbrev pub FitsMessage : Draft → ℕ → Type 0
@@ -42,7 +42,7 @@ module _ {X : Type 0} (head : List X → Bool → Piece) (left : List X) where
     pub count : ℕ
     pub puts : PutsBatch n old new count
     pub rest_is : rest ≡ drop count left
-    pub more_is : more ≡ is_some rest
+    pub more_is : more ≡ is_nonempty rest
 
 -- Whether the batch for n items has all that is left: it was written then, and else nothing was.
 abbrev pub PutsWhole : {X : Type 0} → (List X → Bool → Piece) → List X → (n : ℕ) → (old new : Draft)
@@ -66,6 +66,6 @@ pub data Batches {X : Type 0} : List X → List (List X) → List X → Type 0 w
       → Batches left (take k left ∷ batches) rest
 
 -- one list after another
-abbrev pub concatenated : {X : Type 0} → List (List X) → List X
-concatenated [] = []
-concatenated (xs ∷ xss) = xs ++ concatenated xss
+abbrev pub join_lists : {X : Type 0} → List (List X) → List X
+join_lists [] = []
+join_lists (xs ∷ xss) = xs ++ join_lists xss

@@ -7,28 +7,29 @@ use Rattle.td_cdr.specs.Format.{Piece, ◌then◌, row}
 use Rattle.td_cdr.specs.Gap.{gap}
 use Rattle.td_cdr.specs.Writing.{Draft}
 use Rattle.td_cdr.specs.Format.{number as number_format}
-use Rattle.td_codes.specs.Formats.{is_some}
+use Rattle.td_typecode.specs.Formats.{is_nonempty}
 use Rattle.td_iter.specs.declared.limits.TheConstants.{LARGEST_MESSAGE}
 use Rattle.td_iter.specs.declared.filling.Tail.{Tail}
 use Rattle.td_iter.specs.declared.truth.Truth.{Truth}
 use Rattle.td_iter.specs.Batches.{IsGreatest}
-use Rattle.td_iter.specs.Truths.{told}
+use Rattle.td_iter.specs.Truths.{content}
 
 -- items behind their number
-abbrev pub counted : {X : Type 0} → (X → Piece) → List X → Piece
-counted write items = (number_format 4).writes (length items) then row (map write items)
+abbrev pub count_before : {X : Type 0} → (X → Piece) → List X → Piece
+count_before write items = (number_format 4).writes (length items) then row (map write items)
 
 -- a truth value, and then the items
-abbrev pub flagged : {X : Type 0} → (X → Piece) → List X → Bool → Piece
-flagged write items flag = (number_format 1).writes (from_bool flag) then counted write items
+abbrev pub flag_before : {X : Type 0} → (X → Piece) → List X → Bool → Piece
+flag_before write items flag = (number_format 1).writes (from_bool flag)
+    then count_before write items
 
 -- a batch of next_n, and whether some are left behind it
 abbrev pub next_piece : {X : Type 0} → Truth → (X → Piece) → List X → Bool → Piece
-next_piece truth write items more = flagged write items (told truth (is_some items) more)
+next_piece truth write items more = flag_before write items (content truth (is_nonempty items) more)
 
 -- the items, and then what depends on whether some are left
 abbrev pub first_piece : {X : Type 0} → (X → Piece) → (Bool → Piece) → List X → Bool → Piece
-first_piece write tail items more = counted write items then tail more
+first_piece write tail items more = count_before write items then tail more
 
 -- a boolean and the padding of zeros that follows it at a multiple of four, as one number
 abbrev pub padded_flag : Order → Bool → ℕ
@@ -51,7 +52,7 @@ module _ {X : Type 0} (piece : List X → Piece) (tail : Tail) (items : List X) 
   end_of k = length old.bytes + length (piece (take k items) old.order (length old.bytes))
 
   abbrev pub FitsTail : ℕ → Type 0
-  FitsTail k = reach (end_of k) (behind tail (is_some (drop k items))) ≤ LARGEST_MESSAGE
+  FitsTail k = reach (end_of k) (behind tail (is_nonempty (drop k items))) ≤ LARGEST_MESSAGE
 
   -- as many as fit were written: the first k
   pub record Fills (n : ℕ) (new : Draft) (k : ℕ) : Type 0 where

@@ -5,6 +5,6 @@ use Rattle.td_iter.specs.declared.truth.Truth.{Truth}
 use Rattle.td_iter.specs.declared.truth.Truth.TheVariants.{SomeLeft, SomeGiven}
 
 -- of a batch that has some items or none, and leaves some or none behind
-abbrev pub told : Truth → Bool → Bool → Bool
-told SomeLeft given left = left
-told SomeGiven given left = given
+abbrev pub content : Truth → Bool → Bool → Bool
+content SomeLeft given left = left
+content SomeGiven given left = given

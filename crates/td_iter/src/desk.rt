@@ -5,7 +5,7 @@ ghost use Rattle.std.specs.Prelude.{slice_get};
 ghost use Rattle.std.specs.Vec.{vec_capacity};
 ghost use Rattle.std.specs.Option.{option_copied_mut};
 ghost use Rattle.std.specs.Borrow.{Lends, sem};
-ghost use Rattle.td_iter.specs.Desks.{added, is_called, is_live, item_at, item_of, place_of, removed};
+ghost use Rattle.td_iter.specs.Desks.{with_added, is_called, is_live, item_at, item_of, place_of, without_item};
 ghost use Rattle.td_iter.specs.Desks.{without_oldest};
 
 use crate::item::Item;
@@ -17,16 +17,16 @@ use td_cdr::{Memory, Text};
 const MOST_ITEMS: usize = 256;
 
 /// An iterator: the name of the trader that answered, its number, and what is left.
-pub struct Entry<I> {
+pub struct DeskEntry<I> {
     pub trader: Text,
     pub number: u64,
     pub item: I,
 }
 
 // By hand, since a derived drop is written out at each exit, and proved again in each crate above.
-impl<I: Drop> Drop for Entry<I> {
+impl<I: Drop> Drop for DeskEntry<I> {
     fn drop(self) {
-        let Entry {
+        let DeskEntry {
             trader: _trader,
             number: _number,
             item: _item,
@@ -34,8 +34,8 @@ impl<I: Drop> Drop for Entry<I> {
     }
 }
 
-impl<I> Entry<I> {
-    ghost use Rattle.td_iter.specs.contracts.desk.Entry.{the_row};
+impl<I> DeskEntry<I> {
+    ghost use Rattle.td_iter.specs.contracts.desk.DeskEntry.{the_row};
 
     /// What is left.
     fn item_mut(&mut self) -> &mut I
@@ -50,7 +50,7 @@ impl<I> Entry<I> {
 /// Iterators over what is left of answers, oldest first: at most 256, whose places are taken at once. A new one
 /// drops the oldest. Contracts see the list of them, and the number that the next one gets.
 pub struct Desk<I = Item> {
-    entries: Vec<Entry<I>>,
+    entries: Vec<DeskEntry<I>>,
     next: u64,
 }
 
@@ -68,7 +68,7 @@ impl<I> Model for Desk<I> {
     ghost use Rattle.std.specs.Prelude.{List, ℕ, length, ◌≤◌, ◌^◌};
     ghost use Rattle.std.specs.Vec.{vec_capacity};
     ghost use Rattle.std.specs.Coded.{codes};
-    ghost use Rattle.td_iter.specs.declared.desk.Entry.{Entry as an_entry};
+    ghost use Rattle.td_iter.specs.declared.desk.DeskEntry.{DeskEntry as an_entry};
 
     ghost Value = { List (an_entry I) × ℕ };
 
@@ -87,7 +87,7 @@ impl<I: Drop> Desk<I> {
     ///
     /// # Errors
     ///
-    /// `Memory` for want of memory alone.
+    /// `Memory` only when out of memory.
     pub fn new(alloc: Global, first: u64) -> Result<Desk<I>, Memory>
         requires low { 1 ≤ first }
         requires high { first ≤ 2 ^ 62 }
@@ -110,11 +110,11 @@ impl<I: Drop> Desk<I> {
     pub fn add(&mut self, trader: Text, item: I) -> u64
         requires { self.old.1 < 2 ^ 63 }
         ensures number { result ≡ self.old.1 }
-        ensures added { self.new ≡ added trader item self.old }
+        ensures added { self.new ≡ with_added trader item self.old }
     {
         let number = self.next;
         make_room(&mut self.entries);
-        self.entries.push_reserved(Entry {
+        self.entries.push_reserved(DeskEntry {
             trader,
             number,
             item,
@@ -149,14 +149,14 @@ impl<I: Drop> Desk<I> {
     /// memory.
     pub fn remove(&mut self, trader: &Text, number: u64) -> bool
         ensures found { result ≡ is_live trader.now number self.old }
-        ensures removed { self.new ≡ removed trader.now number self.old }
+        ensures removed { self.new ≡ without_item trader.now number self.old }
     {
         let place = place_of(self.entries.as_slice(), trader, number);
         take_out(&mut self.entries, place)
     }
 
     /// Takes the oldest iterator away, and gives it. Takes no memory.
-    pub fn pop_front(&mut self) -> Option<Entry<I>>
+    pub fn pop_front(&mut self) -> Option<DeskEntry<I>>
         ensures oldest { result ≡ slice_get self.old.0 0 }
         ensures rest { self.new ≡ without_oldest self.old }
     {
@@ -179,7 +179,7 @@ impl<I: Drop> Desk<I> {
 }
 
 /// Drops the oldest where there are as many as may be.
-fn make_room<I: Drop>(entries: &mut Vec<Entry<I>>)
+fn make_room<I: Drop>(entries: &mut Vec<DeskEntry<I>>)
     requires { length entries.old.items ≤ 256 }
     ensures items { entries.new.items ≡ drop (length entries.old.items - 255) entries.old.items }
     ensures capacity { vec_capacity entries.new ≡ vec_capacity entries.old }
@@ -190,7 +190,7 @@ fn make_room<I: Drop>(entries: &mut Vec<Entry<I>>)
 }
 
 /// Takes the entry at a place away, and answers whether there was one.
-fn take_out<I: Drop>(entries: &mut Vec<Entry<I>>, place: usize) -> bool
+fn take_out<I: Drop>(entries: &mut Vec<DeskEntry<I>>, place: usize) -> bool
     requires { place ≤ length entries.old.items }
     ensures found { result ≡ nat_lt place (length entries.old.items) }
     ensures items { entries.new.items ≡ take place entries.old.items
@@ -205,14 +205,14 @@ fn take_out<I: Drop>(entries: &mut Vec<Entry<I>>, place: usize) -> bool
 }
 
 /// Whether an entry has this number and is of this trader.
-fn is_called<I>(entry: &Entry<I>, trader: &Text, number: u64) -> bool
+fn is_called<I>(entry: &DeskEntry<I>, trader: &Text, number: u64) -> bool
     ensures { result ≡ is_called trader.now number entry.now }
 {
     entry.number == number && entry.trader.as_slice() == trader.as_slice()
 }
 
 /// The place of the first that is called so; how many there are, where none is.
-fn place_of<I>(entries: &[Entry<I>], trader: &Text, number: u64) -> usize
+fn place_of<I>(entries: &[DeskEntry<I>], trader: &Text, number: u64) -> usize
     ensures place { result ≡ place_of trader.now number entries.now }
     ensures within { result ≤ length entries.now }
 {

@@ -3,7 +3,7 @@
 ghost use Rattle.std.specs.Prelude.{◌≡◌, ◌+◌, ◌≤◌, ◌<◌, ◌^◌, ◌&&◌, length, map, take, nat_lt, nat_le, if◌then◌else◌};
 ghost use Rattle.std.specs.Prelude.{IfOk, OnErr};
 ghost use Rattle.td_cdr.specs.Format.{row};
-ghost use Rattle.td_iter.specs.Filling.{Fills, behind, counted, reach};
+ghost use Rattle.td_iter.specs.Filling.{Fills, behind, count_before, reach};
 
 use crate::limits::LARGEST_MESSAGE;
 use std::alloc::Global;
@@ -30,7 +30,7 @@ struct Front {
 ///
 /// # Errors
 ///
-/// `Memory` for want of memory alone. Some may then be written.
+/// `Memory` only when out of memory. Some may then be written.
 pub(crate) fn put_items<T: Spelled>(
     alloc: Global,
     w: &mut Writer,
@@ -95,7 +95,7 @@ fn longer(best: Front, next: Front, size: usize) -> Front
 ///
 /// # Errors
 ///
-/// `Memory` for want of memory alone. Some may then be written.
+/// `Memory` only when out of memory. Some may then be written.
 pub(crate) fn put_counted<T: Spelled>(
     alloc: Global,
     w: &mut Writer,
@@ -107,7 +107,7 @@ pub(crate) fn put_counted<T: Spelled>(
     requires more { tail.more ≤ 2 ^ 16 }
     requires done { tail.done ≤ 2 ^ 16 }
     ensures fills { IfOk result
-        (λ k. Fills (counted T.format.writes) tail items.now w.old n w.new k) }
+        (λ k. Fills (count_before T.format.writes) tail items.now w.old n w.new k) }
     ensures kept { OnErr result (take (length w.old.bytes) w.new.bytes ≡ w.old.bytes) }
     ensures order { w.new.order ≡ w.old.order }
 {

@@ -2,10 +2,10 @@
 
 ghost use Rattle.std.specs.Prelude.{◌≡◌, length, take, IfOk, OnErr, if◌then◌else◌};
 ghost use Rattle.td_cdr.specs.Sound.{◌&◌, sequence, text};
-ghost use Rattle.td_codes.specs.References.{reference};
+ghost use Rattle.td_typecode.specs.References.{reference};
 ghost use Rattle.td_iter.specs.Batches.{PutsBatch, PutsWhole};
 ghost use Rattle.td_iter.specs.Heads.{nil, given_or_nil, offers_found, items_found, IsSmallReference, AreLimits};
-ghost use Rattle.td_codes.specs.declared.reference.Ior.{Ior as Reference};
+ghost use Rattle.td_typecode.specs.declared.reference.Ior.{Ior as Reference};
 ghost use Rattle.td_iter.specs.declared.limits.TheConstants.{REPLY_START};
 
 use crate::filling::{Tail, put_counted};
@@ -39,7 +39,7 @@ fn given_or_nil<'a>(iterator: &'a Ior, nil: &'a Ior, more: bool) -> &'a Ior
 ///
 /// # Errors
 ///
-/// `Memory` for want of memory alone; the writer is then unchanged.
+/// `Memory` only when out of memory; the writer is then unchanged.
 pub fn put_found(
     alloc: Global,
     w: &mut Writer,
@@ -97,7 +97,7 @@ fn append_found(
 ///
 /// # Errors
 ///
-/// `Memory` for want of memory alone; the writer is then unchanged.
+/// `Memory` only when out of memory; the writer is then unchanged.
 pub(crate) fn put_whole(
     alloc: Global,
     w: &mut Writer,
@@ -158,7 +158,7 @@ fn append_ended(
 ///
 /// # Errors
 ///
-/// `Memory` for want of memory alone.
+/// `Memory` only when out of memory.
 #[tactic(auto, using(crate::proofs::Endings::without_limits))]
 fn ended_size(
     alloc: Global,
@@ -184,7 +184,7 @@ fn ended_size(
 ///
 /// # Errors
 ///
-/// `Memory` for want of memory alone.
+/// `Memory` only when out of memory.
 fn found_size(
     alloc: Global,
     w: &mut Writer,
@@ -216,7 +216,7 @@ fn found_size(
 ///
 /// # Errors
 ///
-/// `Memory` for want of memory alone; the writer is then unchanged.
+/// `Memory` only when out of memory; the writer is then unchanged.
 pub fn put_first<T: Spelled>(
     alloc: Global,
     w: &mut Writer,
@@ -268,7 +268,7 @@ fn append_first<T: Spelled>(
 ///
 /// # Errors
 ///
-/// `Memory` for want of memory alone.
+/// `Memory` only when out of memory.
 fn reference_size(alloc: Global, w: &mut Writer, iterator: &Ior) -> Result<usize, Memory>
     ensures size { IfOk result (λ n. n ≡
         length (reference.format.writes iterator.now w.old.order (length w.old.bytes))) }

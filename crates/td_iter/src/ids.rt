@@ -62,7 +62,7 @@ impl IdIter {
     ///
     /// # Errors
     ///
-    /// `Memory` for want of memory alone; the iterator and what the writer holds are then unchanged.
+    /// `Memory` only when out of memory; the iterator and what the writer holds are then unchanged.
     pub fn first_batch(
         &mut self,
         alloc: Global,
@@ -88,7 +88,7 @@ impl IdIter {
     ///
     /// # Errors
     ///
-    /// `Memory` for want of memory alone; the iterator and what the writer holds are then unchanged.
+    /// `Memory` only when out of memory; the iterator and what the writer holds are then unchanged.
     pub fn next_n(&mut self, alloc: Global, n: u32, w: &mut Writer) -> Result<bool, Memory>
         requires { length w.old.bytes ≡ REPLY_START }
         ensures batch { IfOk result

@@ -1,7 +1,7 @@
 //! Iterators over items of any kind.
 
 ghost use Rattle.std.specs.Prelude.{◌≡◌, ◌<◌, ◌≤◌, ◌^◌, length, drop, IfOk, OnOk, OnErr};
-ghost use Rattle.td_codes.specs.Formats.{is_some};
+ghost use Rattle.td_typecode.specs.Formats.{is_nonempty};
 ghost use Rattle.td_iter.specs.Batches.{GivesBatch};
 ghost use Rattle.td_iter.specs.Filling.{next_piece};
 ghost use Rattle.td_iter.specs.Heads.{items_found, AreShort, IsSmallReference};
@@ -76,7 +76,7 @@ impl<T> Iter<T> {
     pub fn give(&mut self, count: usize) -> bool
         requires { count ≤ length self.old }
         ensures left { self.new ≡ drop count self.old }
-        ensures more { result ≡ is_some self.new }
+        ensures more { result ≡ is_nonempty self.new }
     {
         self.given += count;
         self.given < self.items.len()
@@ -91,7 +91,7 @@ impl<T: Spelled> Iter<T> {
     ///
     /// # Errors
     ///
-    /// `Memory` for want of memory alone; the iterator and what the writer holds are then unchanged.
+    /// `Memory` only when out of memory; the iterator and what the writer holds are then unchanged.
     pub fn first_batch(
         &mut self,
         alloc: Global,
@@ -121,7 +121,7 @@ impl<T: Spelled> Iter<T> {
     ///
     /// # Errors
     ///
-    /// `Memory` for want of memory alone; the iterator and what the writer holds are then unchanged.
+    /// `Memory` only when out of memory; the iterator and what the writer holds are then unchanged.
     pub fn next_n(
         &mut self,
         alloc: Global,

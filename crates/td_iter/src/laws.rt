@@ -4,8 +4,8 @@ ghost use Rattle.std.specs.Prelude.{◌≡◌, ◌++◌, ℕ, List, Bool, length
 ghost use Rattle.td_cdr.specs.Format.{Piece};
 ghost use Rattle.td_cdr.specs.Writing.{Draft};
 ghost use Rattle.td_cdr.specs.Format.{upwards};
-ghost use Rattle.td_iter.specs.Desks.{Event, LiveOf, numbers_given};
-ghost use Rattle.td_iter.specs.Batches.{Batches, FitsMessage, IsBatch, concatenated};
+ghost use Rattle.td_iter.specs.Desks.{DeskEvent, LiveOf, numbers_given};
+ghost use Rattle.td_iter.specs.Batches.{Batches, FitsMessage, IsBatch, join_lists};
 
 use td_cdr::Spelled;
 
@@ -13,7 +13,7 @@ use td_cdr::Spelled;
 /// are the whole.
 pub fn batches_are_fronts<T: Spelled>()
     ensures { (left rest : List T) (batches : List (List T)) →
-        Batches left batches rest → concatenated batches ++ rest ≡ left }
+        Batches left batches rest → join_lists batches ++ rest ≡ left }
 {}
 
 /// Nothing is done: no list has two batches, and where the message without items fits, it has one.
@@ -27,6 +27,6 @@ pub fn one_batch<T: Spelled>()
 /// Nothing is done: over any list of calls a desk gives the numbers from its next one on, each one more
 /// than the one before. So they rise, and none is given twice.
 pub fn numbers_rise<I>()
-    ensures { (events : List (Event I)) (live : LiveOf I) →
+    ensures { (events : List (DeskEvent I)) (live : LiveOf I) →
         numbers_given events live ≡ upwards live.1 (length (numbers_given events live)) }
 {}

@@ -14,7 +14,7 @@ mod next;
 mod offers;
 mod truth;
 
-pub use desk::{Desk, Entry};
+pub use desk::{Desk, DeskEntry};
 pub use first::{put_first, put_found};
 pub use ids::IdIter;
 pub use item::Item;

@@ -10,11 +10,12 @@ use crate::truth::Truth;
 use std::alloc::Global;
 use td_cdr::{Memory, Order, Spelled, Writer};
 
-/// Appends a truth value about the batch for n items, and the batch. Answers how many items it has. The writer holds what stands before the body of a reply.
+/// Appends a truth value about the batch for n items, and the batch. Answers how many items it has. The writer holds
+/// what stands before the body of a reply.
 ///
 /// # Errors
 ///
-/// `Memory` for want of memory alone; the writer is then unchanged.
+/// `Memory` only when out of memory; the writer is then unchanged.
 pub(crate) fn put_next<T: Spelled>(
     alloc: Global,
     w: &mut Writer,
@@ -56,7 +57,7 @@ fn append_next<T: Spelled>(
     let place = w.len();
     w.u32(0)?;
     let count = put_counted(alloc, w, items, n, Tail { more: 0, done: 0 })?;
-    let flag = padded_flag(w.order(), truth.told(count, items.len()));
+    let flag = padded_flag(w.order(), truth.content(count, items.len()));
     w.set_u32(place as u32, flag);
     Ok(count)
 }

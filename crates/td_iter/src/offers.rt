@@ -1,7 +1,7 @@
 //! Iterators over offers.
 
 ghost use Rattle.std.specs.Prelude.{◌≡◌, ◌<◌, ◌^◌, length, IfOk, OnOk, OnErr};
-ghost use Rattle.td_codes.specs.declared.reference.Ior.{Ior as Reference};
+ghost use Rattle.td_typecode.specs.declared.reference.Ior.{Ior as Reference};
 ghost use Rattle.td_iter.specs.Batches.{GivesBatch, GivesWhole};
 ghost use Rattle.td_iter.specs.Heads.{offers_found, next_offers, AreSmallOffers, IsSmallReference, AreLimits};
 ghost use Rattle.td_iter.specs.declared.limits.TheConstants.{REPLY_START};
@@ -30,8 +30,8 @@ impl Drop for OfferIter {
 impl Model for OfferIter {
     ghost use Rattle.std.specs.Prelude.{List as Row};
     ghost use Rattle.std.specs.Coded.{codes};
-    ghost use Rattle.td_codes.specs.contracts.code.TypeCode as code;
-    ghost use Rattle.td_codes.specs.contracts.code.Value as value;
+    ghost use Rattle.td_typecode.specs.contracts.code.TypeCode as code;
+    ghost use Rattle.td_typecode.specs.contracts.code.Value as value;
     ghost use Rattle.td_value.specs.declared.structures.Offer.{Offer as an_offer};
     ghost use Rattle.td_iter.specs.Heads.{AreSmallOffers as are_small};
 
@@ -70,7 +70,7 @@ impl OfferIter {
     ///
     /// # Errors
     ///
-    /// `Memory` for want of memory alone; the iterator and what the writer holds are then unchanged.
+    /// `Memory` only when out of memory; the iterator and what the writer holds are then unchanged.
     pub fn first_batch(
         &mut self,
         alloc: Global,
@@ -100,7 +100,7 @@ impl OfferIter {
     ///
     /// # Errors
     ///
-    /// `Memory` for want of memory alone; the iterator and what the writer holds are then unchanged.
+    /// `Memory` only when out of memory; the iterator and what the writer holds are then unchanged.
     pub fn whole_batch(
         &mut self,
         alloc: Global,
@@ -132,7 +132,7 @@ impl OfferIter {
     ///
     /// # Errors
     ///
-    /// `Memory` for want of memory alone; the iterator and what the writer holds are then unchanged.
+    /// `Memory` only when out of memory; the iterator and what the writer holds are then unchanged.
     pub fn next_n(&mut self, alloc: Global, n: u32, w: &mut Writer) -> Result<bool, Memory>
         requires { length w.old.bytes ≡ REPLY_START }
         ensures batch { IfOk result

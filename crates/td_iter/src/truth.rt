@@ -1,7 +1,7 @@
 //! What the truth value before a batch of `next_n` says.
 
 ghost use Rattle.std.specs.Prelude.{◌≡◌, ◌≤◌, nat_lt};
-ghost use Rattle.td_iter.specs.Truths.{told};
+ghost use Rattle.td_iter.specs.Truths.{content};
 
 /// What the truth value before a batch of `next_n` says.
 #[derive(Clone, Copy)]
@@ -15,8 +15,8 @@ pub enum Truth {
 
 impl Truth {
     /// What it is for the first `count` of so many items.
-    pub(crate) fn told(self, count: usize, all: usize) -> bool
-        ensures { result ≡ told self (nat_lt 0 count) (nat_lt count all) }
+    pub(crate) fn content(self, count: usize, all: usize) -> bool
+        ensures { result ≡ content self (nat_lt 0 count) (nat_lt count all) }
     {
         match self {
             Truth::SomeLeft => count < all,

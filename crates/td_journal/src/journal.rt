@@ -1,11 +1,11 @@
 //! What a session notes its Requests in.
 
 ghost use Rattle.std.specs.Prelude.{◌≡◌, [], ◌∷◌, ◌++◌, List, OnOk};
-ghost use Rattle.td_reply.specs.declared.entry.Entry.{Entry as TheEntry};
+ghost use Rattle.td_servant.specs.declared.entry.Entry.{Entry as TheEntry};
 
 use std::alloc::Global;
 use td_cdr::Memory;
-use td_reply::Entry;
+use td_servant::Entry;
 
 /// What a session notes its Requests in: an entry for each, in order. Contracts see the list of entries, whether or not
 /// they are kept.
@@ -24,7 +24,7 @@ pub trait Journal {
     ///
     /// # Errors
     ///
-    /// `Memory` for want of memory alone; what was noted stays.
+    /// `Memory` only when out of memory; what was noted stays.
     fn take_room(&mut self) -> Result<(), Memory>
         ensures entries { entries self.new ≡ entries self.old }
         ensures room { OnOk result (has_room self.new) };

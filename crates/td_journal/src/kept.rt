@@ -6,7 +6,7 @@ ghost use Rattle.td_journal.specs.Lists.{as_list};
 use crate::journal::Journal;
 use std::alloc::Global;
 use td_cdr::Memory;
-use td_reply::Entry;
+use td_servant::Entry;
 
 /// A journal that keeps its entries, and lends them.
 #[derive(Drop)]

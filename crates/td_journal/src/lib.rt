@@ -1,5 +1,5 @@
-//! What a session notes its Requests in, an entry for each: a journal that keeps them, for who reads them, and one whose
-//! entries stand in proofs alone, for a program that never does.
+//! What a session notes its Requests in, an entry for each: a journal that keeps them, for who reads them, and one
+//! whose entries stand in proofs alone, for a program that never does.
 #![tactic(auto)]
 
 mod journal;

@@ -1,12 +1,12 @@
 //! A journal whose entries stand in proofs alone.
 
-ghost use Rattle.td_past.specs.Entries.{entries_of};
+ghost use Rattle.td_ghost_list.specs.Entries.{entries_of};
 
 use crate::journal::Journal;
 use std::alloc::Global;
 use td_cdr::Memory;
-use td_past::Past;
-use td_reply::Entry;
+use td_ghost_list::Past;
+use td_servant::Entry;
 
 /// A journal that takes no memory: an entry is dropped when it is noted, and only proofs see what was noted.
 #[derive(Drop)]

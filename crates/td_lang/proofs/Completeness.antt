@@ -13,9 +13,9 @@ use Rattle.td_lang.specs.declared.machine.Frame.TheVariants as frame
 use Rattle.td_lang.specs.declared.machine.State.TheVariants as state
 use Rattle.td_lang.specs.declared.machine.Stop.{Stop}
 use Rattle.td_lang.specs.Levels.{level, left, right}
-use Rattle.td_lang.specs.Machine.{Stand, stand, step, reduction, takes_not}
+use Rattle.td_lang.specs.Machine.{MachineState, stand, step, reduction, takes_not}
 use Rattle.td_lang.specs.Grammar.{Phrase, Operation, Within, Negation, Existence, PropertyName, Numeral, Negative}
-use Rattle.td_lang.specs.Grammar.{Quoted, Truth, Parenthesis, Fits, tokens, tree, Shallow, Sentence}
+use Rattle.td_lang.specs.Grammar.{Quoted, Truth, Parenthesis, IsOfLevel, tokens, tree, Shallow, Sentence}
 use Rattle.td_lang.specs.Reading.{◌>>=◌, run, start, read}
 
 pub level-left : (o : Op) → level o ≤ left o
@@ -106,7 +106,7 @@ rank (Quoted t) = 9
 rank (Truth b) = 9
 rank (Parenthesis a) = 9
 
-pub fits-rank : (l : ℕ) (c : Phrase) → Fits l c → l ≤ rank c
+pub fits-rank : (l : ℕ) (c : Phrase) → IsOfLevel l c → l ≤ rank c
 fits-rank l (Operation o a b) f = f.0
 fits-rank l (Within a name) f = f.0
 fits-rank l (Negation a) f = f.0
@@ -134,7 +134,7 @@ bind_assoc : {A B C : Type 0} (r : Result A Stop) (f : A → Result B Stop) (g :
 bind_assoc (Ok x) f g = refl
 bind_assoc (Err e) f g = refl
 
-pub run-append : (xs : List Token) (s : Stand) (ys : List Token) → run s (xs ++ ys) ≡ run s xs >>= (λ next. run next ys)
+pub run-append : (xs : List Token) (s : MachineState) (ys : List Token) → run s (xs ++ ys) ≡ run s xs >>= (λ next. run next ys)
 run-append [] s ys = refl
 run-append (t ∷ xs) s ys =
     bind_same (step s t) (λ next. run next (xs ++ ys)) (λ next. run next xs >>= λ last. run last ys)
@@ -226,7 +226,7 @@ enclosed_reached a l d st room ra =
       settles = λ n h. refl;
     }
 
-pub complete : (c : Phrase) (l r d : ℕ) (st : List Frame) → Fits l c → Shallow r c → d + r ≤ 64 → needs st ≤ l
+pub complete : (c : Phrase) (l r d : ℕ) (st : List Frame) → IsOfLevel l c → Shallow r c → d + r ≤ 64 → needs st ≤ l
     → Reached l d st c
 complete (Operation o a b) l r d st f s room need =
     joined_reached o a b l d st f.0 need (fits-rank (left o) a f.1)

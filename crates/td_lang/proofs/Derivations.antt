@@ -8,15 +8,16 @@ use Rattle.td_lang.specs.declared.token.Token.{Token}
 use Rattle.td_lang.specs.declared.token.Token.TheVariants as token
 use Rattle.td_lang.specs.Levels.{level, left, right}
 use Rattle.td_lang.specs.Grammar.{Phrase, Operation, Within, Negation, Existence, PropertyName, Numeral, Negative}
-use Rattle.td_lang.specs.Grammar.{Quoted, Truth, Parenthesis, Fits, tokens, tree}
-use Rattle.td_lang.specs.Derivation.{HasPhrase, Kind, Or, And, Compare, In, Twiddle, Sum, Term, NotFactor, Factor}
-use Rattle.td_lang.specs.Derivation.{between, Derives, or_more, or_one, and_more, and_one, equal, unequal, less}
+use Rattle.td_lang.specs.Grammar.{Quoted, Truth, Parenthesis, IsOfLevel, tokens, tree}
+use Rattle.td_lang.specs.Derivation.{HasPhrase, Nonterminal, Or, And, Compare, In, Twiddle, Sum, Term, NotFactor}
+use Rattle.td_lang.specs.Derivation.{Factor}
+use Rattle.td_lang.specs.Derivation.{binary_tokens, Derives, or_more, or_one, and_more, and_one, equal, unequal, less}
 use Rattle.td_lang.specs.Derivation.{less_or_equal, greater, greater_or_equal, compare_one, in_list, in_one, occurs}
 use Rattle.td_lang.specs.Derivation.{twiddle_one, plus, minus, sum_one, times, divided, term_one, denied}
 use Rattle.td_lang.specs.Derivation.{not_factor_one, enclosed, exists, named, counted, opposed, quoted, truth}
 use Rattle.td_lang.proofs.Soundness.{fits_lower}
 
-abbrev pub level_of : Kind → ℕ
+abbrev pub level_of : Nonterminal → ℕ
 level_of Or = 1
 level_of And = 2
 level_of Compare = 3
@@ -36,7 +37,7 @@ lower k m ts e h p = record {
 }
 
 joins : (o : Op) (xs ys : List Token) (a b : Expr) → HasPhrase (left o) xs a → HasPhrase (right o) ys b
-    → HasPhrase (level o) (between xs o ys) (expr.Binary o a b)
+    → HasPhrase (level o) (binary_tokens xs o ys) (expr.Binary o a b)
 joins o xs ys a b p q = record {
   phrase = Operation o p.phrase q.phrase;
   fits = (omega arith, p.fits, q.fits);
@@ -47,7 +48,7 @@ joins o xs ys a b p q = record {
       ap (λ (z : Expr). expr.Binary o z (tree q.phrase)) p.tree_is ∙ ap (λ (z : Expr). expr.Binary o a z) q.tree_is;
 }
 
-pub made : (k : Kind) (ts : List Token) (e : Expr) → Derives k ts e → HasPhrase (level_of k) ts e
+pub made : (k : Nonterminal) (ts : List Token) (e : Expr) → Derives k ts e → HasPhrase (level_of k) ts e
 made _ _ _ (or_more xs ys a b p q) = joins op.Or xs ys a b (made _ _ _ p) (made _ _ _ q)
 made _ _ _ (or_one xs a p) = lower 1 2 xs a (omega arith) (made _ _ _ p)
 made _ _ _ (and_more xs ys a b p q) = joins op.And xs ys a b (made _ _ _ p) (made _ _ _ q)
@@ -102,7 +103,7 @@ made _ _ _ (opposed n) = record { phrase = Negative n; fits = omega arith; spell
 
 -- a phrase of a higher level is one of a lower level
 abbrev At : ℕ → List Token → Expr → Type 0
-At n ts e = (k : Kind) → level_of k ≤ n → Derives k ts e
+At n ts e = (k : Nonterminal) → level_of k ≤ n → Derives k ts e
 
 at_or : (ts : List Token) (e : Expr) → Derives Or ts e → At 1 ts e
 at_or ts e d Or h = d
@@ -141,7 +142,7 @@ at_factor ts e d Factor h = d
 at_factor ts e d k h = at_not_factor ts e (not_factor_one ts e d) k (omega arith)
 
 -- each phrase is derived, and each derivation gives a phrase
-pub derives : (c : Phrase) (k : Kind) → Fits (level_of k) c → Derives k (tokens c) (tree c)
+pub derives : (c : Phrase) (k : Nonterminal) → IsOfLevel (level_of k) c → Derives k (tokens c) (tree c)
 derives (Operation op.Or a b) k f =
     at_or _ _ (or_more (tokens a) (tokens b) (tree a) (tree b) (derives a Or f.1) (derives b And f.2)) k f.0
 derives (Operation op.And a b) k f =

@@ -2,7 +2,7 @@
 use Rattle.std.proofs.Common.{◌≡◌, ℕ, suc, ◌+◌, ◌<◌, Bool, true, false, List, [], ◌∷◌, length, drop, Ok, Err, refl, sym}
 use Rattle.std.proofs.Common.{ap, ◌∙◌, arith}
 use Rattle.td_lang.specs.declared.expr.Constraint.TheVariants as constraint
-use Rattle.td_lang.specs.Lexing.{Taken, is_blank, lead, token_at}
+use Rattle.td_lang.specs.Lexing.{NextToken, is_blank, lead, token_at}
 use Rattle.td_lang.specs.Reading.{start}
 use Rattle.td_lang.specs.Tape.{Tape, Over, spot, tape, read_tape, ◌>>=◌}
 use Rattle.td_lang.specs.Constraints.{tape_constraint}
@@ -22,7 +22,7 @@ pub blank_tape : (bs : List ℕ) (place : ℕ) → lead is_blank bs ≡ length b
 blank_tape [] place h = ap (λ (p : ℕ). Over p) (omega arith)
 blank_tape (b ∷ bs) place h = blank_over (is_blank b) b bs place refl h (λ k. blank_tape bs (place + 1) k)
 
-spot_asked : (place : ℕ) (r : Taken) (rest : ℕ → Tape)
+spot_asked : (place : ℕ) (r : NextToken) (rest : ℕ → Tape)
     → tape_constraint (spot place r rest) ≡ (read_tape start (spot place r rest) >>= λ e. Ok (constraint.Is e))
 spot_asked place (Ok t) rest = refl
 spot_asked place (Err f) rest = refl

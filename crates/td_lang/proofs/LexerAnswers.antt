@@ -15,20 +15,20 @@ use Rattle.td_lang.specs.declared.token.Keyword.TheVariants as keyword
 use Rattle.td_lang.specs.declared.token.Token.{Token}
 use Rattle.td_lang.specs.declared.token.Token.TheVariants as token
 use Rattle.td_lang.specs.declared.fault.LangFault.TheVariants as fault
-use Rattle.td_lang.specs.Lexing.{Taken, lead, plain_word, word_token, byte_at, word_at, own_name_at}
-use Rattle.td_lang.specs.Spelling.{Spells, EndsWord, Apart, Front, is_float, token_fault}
+use Rattle.td_lang.specs.Lexing.{NextToken, lead, plain_word, word_token, byte_at, word_at, own_name_at}
+use Rattle.td_lang.specs.Spelling.{SpellsToken, EndsWord, Apart, BeginsWithToken, is_float, token_fault}
 use Rattle.td_lang.proofs.Words.{lead_within, name_front}
 
 -- the token stands in front, and takes so many bytes
 pub record Takes (t : Token) (size : ℕ) (text : List ℕ) : Type 0 where
-  pub front : Front t text
+  pub front : BeginsWithToken t text
   pub size_is : size ≡ length front.spelling
 
-abbrev pub Found : ℕ → List ℕ → Taken → Type 0
+abbrev pub Found : ℕ → List ℕ → NextToken → Type 0
 Found place text (Ok r) = Takes r.0 r.1 text
 Found place text (Err f) = f ≡ token_fault place text
 
-pub found_if : (b : Bool) (place : ℕ) (text : List ℕ) (x y : Taken) → (b ≡ true → Found place text x)
+pub found_if : (b : Bool) (place : ℕ) (text : List ℕ) (x y : NextToken) → (b ≡ true → Found place text x)
     → (b ≡ false → Found place text y) → Found place text (if b then x else y)
 found_if true place text x y h k = h refl
 found_if false place text x y h k = k refl
@@ -80,7 +80,7 @@ take_drop (suc n) (b ∷ bs) = ap (λ (xs : List ℕ). b ∷ xs) (take_drop n bs
 
 -- what stands in front of bytes of a kind
 abbrev pub Stands : Token → List ℕ → List ℕ → Type 0
-Stands t spelling more = Spells t spelling × Apart t more
+Stands t spelling more = SpellsToken t spelling × Apart t more
 
 pub taken_front : (t : Token) (size : ℕ) (text : List ℕ) → size ≤ length text
     → Stands t (take size text) (drop size text) → Takes t size text
@@ -103,7 +103,7 @@ is_same w v h = (bytes_eq-Decides w v).0 h
 plain_stands : (w more : List ℕ) (p q r s t u v : Bool) → EndsWord more → (p ≡ true → w ≡ codes "min")
     → (q ≡ true → w ≡ codes "max") → (r ≡ true → w ≡ codes "first") → (s ≡ true → w ≡ codes "random")
     → (t ≡ true → w ≡ codes "with") → (u ≡ true → w ≡ codes "TRUE") → (v ≡ true → w ≡ codes "FALSE")
-    → (p ≡ false → q ≡ false → r ≡ false → s ≡ false → t ≡ false → u ≡ false → v ≡ false → Spells (token.Name w) w)
+    → (p ≡ false → q ≡ false → r ≡ false → s ≡ false → t ≡ false → u ≡ false → v ≡ false → SpellsToken (token.Name w) w)
     → Stands (if p then token.Keyword keyword.Min else if q then token.Keyword keyword.Max
     else if r then token.Keyword keyword.First else if s then token.Keyword keyword.Random
     else if t then token.Keyword keyword.With else if u then token.Truth true else if v then token.Truth false

@@ -5,7 +5,7 @@ use Rattle.std.proofs.lemmas.List.{drop-drop, drop_all}
 use Rattle.td_lang.specs.declared.token.Token.{Token}
 use Rattle.td_lang.specs.declared.fault.LangFault.{LangFault}
 use Rattle.td_lang.specs.Lexing.{is_blank, lead, token_at, GivesFault}
-use Rattle.td_lang.specs.Preferences.{Looks}
+use Rattle.td_lang.specs.Preferences.{LooksAhead}
 use Rattle.td_lang.specs.declared.fault.LangFault.TheVariants as fault
 use Rattle.td_lang.specs.Tape.{Tape, Over, Broken, Spot, tape}
 use Rattle.td_lang.proofs.ReaderTurn.{tape_skips}
@@ -129,7 +129,7 @@ broken_ahead text rest solid from blanks place f is count some part at found =
 pub fault_ahead : (text rest solid : List ℕ) (from blanks place : ℕ) (f : LangFault) → rest ≡ drop from text
     → blanks ≡ lead is_blank rest → blanks < length rest → solid ≡ drop blanks rest → place ≡ from + blanks
     → GivesFault (λ (r : Token × ℕ). r) (Err f) (token_at place solid)
-    → Looks text (tape 0 from (drop from text)) (Err f)
+    → LooksAhead text (tape 0 from (drop from text)) (Err f)
 fault_ahead text rest solid from blanks place fault.Memory is count some part at given = tt
 fault_ahead text rest solid from blanks place fault.TooLong is count some part at given =
     broken_ahead text rest solid from blanks place fault.TooLong is count some part at given

@@ -9,14 +9,14 @@ use Rattle.td_lang.specs.declared.expr.Expr.TheVariants as expr
 use Rattle.td_lang.specs.declared.expr.Expr.TheOpen as layer
 use Rattle.td_lang.specs.Levels.{level, left, right}
 use Rattle.td_lang.specs.Grammar.{Phrase, Operation, Within, Negation, Existence, PropertyName, Numeral, Negative}
-use Rattle.td_lang.specs.Grammar.{Quoted, Truth, Parenthesis, Fits, tree}
+use Rattle.td_lang.specs.Grammar.{Quoted, Truth, Parenthesis, IsOfLevel, tree}
 use Rattle.td_lang.specs.Printing.{number_phrase, phrase_of, IsTight}
 use Rattle.td_lang.proofs.Completeness.{level-high, level-right, left-high}
 use Rattle.td_lang.proofs.PrintedPhrases.{again, bare, of-Binary, of-Within, of-Not, of-Exist, of-Name, of-Number}
 use Rattle.td_lang.proofs.PrintedPhrases.{of-Str, of-Truth}
 
 -- parentheses stand only where the phrase doesn't fit
-tight_if : (t : Bool) (l m : ℕ) (c : Phrase) → nat_lt m l ≡ t → (Fits l c → l ≤ m) → IsTight 1 c → IsTight l c
+tight_if : (t : Bool) (l m : ℕ) (c : Phrase) → nat_lt m l ≡ t → (IsOfLevel l c → l ≤ m) → IsTight 1 c → IsTight l c
     → IsTight l (if t then Parenthesis c else c)
 tight_if true l m c is low one here = ((λ f. let most = low f in absurd (omega (arith, ltb-true m l is))), one)
 tight_if false l m c is low one here = here
@@ -62,12 +62,12 @@ left_bare : (t : Bool) (l m : ℕ) (c d : Phrase) → nat_lt m l ≡ t → l ≤
 left_bare true l m c d is low e = absurd (omega (arith, ltb-true m l is))
 left_bare false l m c d is low e = e
 
-enclosed_only : (t : Bool) (l : ℕ) (a expr_text : Phrase) → (Fits l a → ⊥) → Fits l expr_text
+enclosed_only : (t : Bool) (l : ℕ) (a expr_text : Phrase) → (IsOfLevel l a → ⊥) → IsOfLevel l expr_text
     → expr_text ≡ (if t then Parenthesis a else a) → Parenthesis a ≡ expr_text
 enclosed_only true l a expr_text needed fits is = sym is
-enclosed_only false l a expr_text needed fits is = absurd (needed (subst (Fits l) is fits))
+enclosed_only false l a expr_text needed fits is = absurd (needed (subst (IsOfLevel l) is fits))
 
-pub only : (c : Phrase) (l : ℕ) → l ≤ 9 → Fits l c → IsTight l c → c ≡ phrase_of (tree c) l
+pub only : (c : Phrase) (l : ℕ) → l ≤ 9 → IsOfLevel l c → IsTight l c → c ≡ phrase_of (tree c) l
 only (Operation o a b) l high f t =
     let x = only a (left o) (omega (arith, left-high o)) f.1 t.0 in
     let y = only b (right o) (omega (arith, level-right o, level-high o)) f.2 t.1 in

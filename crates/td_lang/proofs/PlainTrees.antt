@@ -13,7 +13,7 @@ use Rattle.td_lang.specs.declared.token.Token.TheVariants as token
 use Rattle.td_lang.specs.Levels.{level, left, right}
 use Rattle.td_lang.specs.Grammar.{Phrase, Operation, Within, Negation, Parenthesis, tokens}
 use Rattle.td_lang.specs.Lexing.{AllSpelled}
-use Rattle.td_lang.specs.Printing.{number_phrase, phrase_of, plain, plain_layer, plain_number, IsPlain}
+use Rattle.td_lang.specs.Printing.{number_phrase, phrase_of, plain, plain_layer, plain_number, HasNoParentheses}
 use Rattle.td_lang.proofs.Conjunction.{and-left, and-right}
 use Rattle.td_lang.proofs.PrintedPhrases.{of-Binary, of-Within, of-Not, of-Exist, of-Name, of-Number, of-Str, of-Truth}
 
@@ -99,5 +99,5 @@ step (layer.Number z) =
 step (layer.Str t) = rw (expr.rolls-Str t) (λ l h. rw (of-Str t l) (tt, tt))
 step (layer.Truth b) = rw (expr.rolls-Truth b) (λ l h. rw (of-Truth b l) (tt, tt))
 
-pub plain-spelled : (e : Expr) (l : ℕ) → IsPlain e → AllSpelled (tokens (phrase_of e l))
+pub plain-spelled : (e : Expr) (l : ℕ) → HasNoParentheses e → AllSpelled (tokens (phrase_of e l))
 plain-spelled = ind-Expr Spells (λ x y is. subst (λ (z : Expr-F Expr). Spells (roll-Expr z)) is (step y))

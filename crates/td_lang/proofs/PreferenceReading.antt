@@ -15,10 +15,10 @@ use Rattle.td_lang.specs.declared.machine.Stop.TheVariants as stop
 use Rattle.td_lang.specs.declared.fault.LangFault.{LangFault}
 use Rattle.td_lang.specs.declared.fault.LangFault.TheVariants as fault
 use Rattle.td_lang.specs.Constraints.{UnlessMemory}
-use Rattle.td_lang.specs.FirstFaults.{Viable, Whole, First, Answers, fault_of}
+use Rattle.td_lang.specs.FirstFaults.{Viable, CompletesTree, First, ParsesOrFaults, fault_of}
 use Rattle.td_lang.specs.Grammar.{Sentence}
 use Rattle.td_lang.specs.Lexing.{GivesFault, HasSpelling}
-use Rattle.td_lang.specs.Preferences.{Follows, IsPreference, ViablePreference, WholePreference, FirstFault, Chooses}
+use Rattle.td_lang.specs.Preferences.{FollowsWord, IsPreference, ViablePreference, WholePreference, FirstFault, Chooses}
 use Rattle.td_lang.specs.Preferences.{Prefers, alone, behind, spot_preference, tape_preference, preference_of}
 use Rattle.td_lang.specs.Reading.{start, read}
 use Rattle.td_lang.specs.Reading as reading
@@ -148,7 +148,7 @@ record Opens (k : Keyword) (make : Expr → Preference) : Type 0 where
   makes : (ts : List Token) (e : Expr) → Sentence ts e → IsPreference (token.Keyword k ∷ ts) (make e)
   made : (ts : List Token) (p : Preference) → IsPreference (token.Keyword k ∷ ts) p → (e : Expr) × Sentence ts e
 
-follows : (k : Keyword) (ts : List Token) (e : Expr) → Follows k (token.Keyword k ∷ ts) e → Sentence ts e
+follows : (k : Keyword) (ts : List Token) (e : Expr) → FollowsWord k (token.Keyword k ∷ ts) e → Sentence ts e
 follows k ts e f =
     let same : ts ≡ f.rest = ap others_of f.front in subst (λ (xs : List Token). Sentence xs e) (sym same) f.sentence
 
@@ -204,7 +204,7 @@ viable_so k make ts o b =
     record { more = b.more; spelled = b.spelled; expr = e.0; sentence = e.1 }
 
 whole_so : (k : Keyword) (make : Expr → Preference) (rest : Tape) (ts : List Token) (e : Expr) → Opens k make
-    → Whole ts rest e → WholePreference (token.Keyword k ∷ ts) rest (make e)
+    → CompletesTree ts rest e → WholePreference (token.Keyword k ∷ ts) rest (make e)
 whole_so k make (Over place) ts e o w = o.makes ts e w
 whole_so k make (Broken f) ts e o w = w
 whole_so k make (Spot place t rest) ts e o w = whole_so k make rest (ts ++ t ∷ []) e o w
@@ -218,7 +218,7 @@ first_so k make (Spot place t rest) ts f o (inl h) =
 first_so k make (Spot place t rest) ts f o (inr h) = inr (first_so k make rest (ts ++ t ∷ []) f o h)
 
 chooses_with : (k : Keyword) (make : Expr → Preference) (place : ℕ) (rest : Tape) (r : Result Expr LangFault)
-    → Opens k make → Answers [] rest r → Chooses (Spot place (token.Keyword k) rest) (r >>= λ e. Ok (make e))
+    → Opens k make → ParsesOrFaults [] rest r → Chooses (Spot place (token.Keyword k) rest) (r >>= λ e. Ok (make e))
 chooses_with k make place rest (Ok e) o h = whole_so k make rest [] e o h
 chooses_with k make place rest (Err f) o h = inr (first_so k make rest [] f o h)
 

@@ -12,14 +12,14 @@ use Rattle.td_lang.specs.declared.token.Keyword.TheVariants as keyword
 use Rattle.td_lang.specs.declared.token.Token.{Token}
 use Rattle.td_lang.specs.declared.token.Token.TheVariants as token
 use Rattle.td_lang.specs.declared.fault.LangFault.{LangFault}
-use Rattle.td_lang.specs.Constraints.{IsTreeOrFault, Asks, Says, tape_constraint, constraint_of}
-use Rattle.td_lang.specs.FirstFaults.{Whole}
+use Rattle.td_lang.specs.Constraints.{IsTreeOrFault, ParsesConstraint, Says, tape_constraint, constraint_of}
+use Rattle.td_lang.specs.FirstFaults.{CompletesTree}
 use Rattle.td_lang.specs.Grammar.{Phrase, Operation, Within, Negation, Existence, PropertyName, Numeral, Negative}
 use Rattle.td_lang.specs.Grammar.{Quoted, Truth, Parenthesis, tokens, tree, Shallow, Sentence}
 use Rattle.td_lang.specs.Lexing.{HasSpelling, AllSpelled}
-use Rattle.td_lang.specs.Preferences.{Follows, IsPreference, WholePreference, Prefers, behind, tape_preference}
+use Rattle.td_lang.specs.Preferences.{FollowsWord, IsPreference, WholePreference, Prefers, behind, tape_preference}
 use Rattle.td_lang.specs.Preferences.{preference_of}
-use Rattle.td_lang.specs.Printing.{bytes_of, put_all, phrase_of, plain, plain_number, IsPlain, CanBeRead}
+use Rattle.td_lang.specs.Printing.{bytes_of, put_all, phrase_of, plain, plain_number, HasNoParentheses, CanBeRead}
 use Rattle.td_lang.specs.PrintedTexts.{constraint_text, preference_text, ConstraintCanBeRead, PreferenceCanBeRead}
 use Rattle.td_lang.specs.Reading.{start, read}
 use Rattle.td_lang.specs.Tape.{Tape, Over, Broken, Spot, tape, read_tape, ◌>>=◌}
@@ -113,14 +113,14 @@ spelled-plain (Parenthesis a) s = spelled-plain a (spelled-front (tokens a) (tok
 sentence_can : (ts : List Token) (e : Expr) → AllSpelled ts → Sentence ts e → CanBeRead e
 sentence_can ts e a s =
     let own = spelled-plain s.phrase (subst AllSpelled (sym s.spelled) a) in (
-      subst IsPlain s.tree_is own,
+      subst HasNoParentheses s.tree_is own,
       subst (λ (x : Expr). Shallow 64 (phrase_of x 1)) s.tree_is (least s.phrase 1 64 (omega arith) s.fits s.shallow),
     )
 
 one_more : (ts : List Token) (t : Token) → AllSpelled ts → HasSpelling t → AllSpelled (ts ++ t ∷ [])
 one_more ts t a h = spelled-append ts (t ∷ []) a (h, tt)
 
-whole_can : (rest : Tape) (ts : List Token) (e : Expr) → AllSpelled ts → AllOnTape rest → Whole ts rest e → CanBeRead e
+whole_can : (rest : Tape) (ts : List Token) (e : Expr) → AllSpelled ts → AllOnTape rest → CompletesTree ts rest e → CanBeRead e
 whole_can (Over place) ts e a own w = sentence_can ts e a w
 whole_can (Broken f) ts e a own w = absurd w
 whole_can (Spot place t rest) ts e a own w = whole_can rest (ts ++ t ∷ []) e (one_more ts t a own.0) own.1 w
@@ -134,7 +134,7 @@ empty_can : (c : Constraint) (r : Result Constraint LangFault) → r ≡ Ok cons
 empty_can constraint.Empty r h k = tt
 empty_can (constraint.Is e) r h k = let both = sym h ∙ k in absurd (cc)
 
-asks_can : (rest : Tape) (c : Constraint) → AllOnTape rest → Asks rest (Ok c) → ConstraintCanBeRead c
+asks_can : (rest : Tape) (c : Constraint) → AllOnTape rest → ParsesConstraint rest (Ok c) → ConstraintCanBeRead c
 asks_can (Over place) c own h = empty_can c (Ok c) h refl
 asks_can (Broken f) c own h = made_can (Broken f) c own h
 asks_can (Spot place t rest) c own h = made_can (Spot place t rest) c own h
@@ -146,7 +146,7 @@ says_can text c (inr h) = asks_can (tape 0 0 text) c (tape_kept text 0 0) h.1
 pub constraint_can : (text : List ℕ) (c : Constraint) → constraint_of text ≡ Ok c → ConstraintCanBeRead c
 constraint_can text c h = says_can text c (subst (λ (r : Result Constraint LangFault). Says text r) h (says_so text))
 
-follows_can : (k : Keyword) (ts : List Token) (e : Expr) → AllSpelled ts → Follows k ts e → CanBeRead e
+follows_can : (k : Keyword) (ts : List Token) (e : Expr) → AllSpelled ts → FollowsWord k ts e → CanBeRead e
 follows_can k ts e a f =
     let own : AllSpelled (token.Keyword k ∷ f.rest) = subst AllSpelled f.front a in
     sentence_can f.rest e own.1 f.sentence

@@ -10,7 +10,7 @@ use Rattle.td_lang.specs.declared.expr.Expr.TheVariants as expr
 use Rattle.td_lang.specs.declared.expr.Expr.TheOpen as layer
 use Rattle.td_lang.specs.Levels.{level, left, right}
 use Rattle.td_lang.specs.Grammar.{Phrase, Operation, Within, Negation, Existence, PropertyName, Numeral, Negative}
-use Rattle.td_lang.specs.Grammar.{Quoted, Truth, Parenthesis, Fits, tokens, tree, Shallow, Sentence}
+use Rattle.td_lang.specs.Grammar.{Quoted, Truth, Parenthesis, IsOfLevel, tokens, tree, Shallow, Sentence}
 use Rattle.td_lang.specs.Printing.{number_phrase, phrase_of, phrase_layer, at_level}
 use Rattle.td_lang.proofs.Completeness.{level-low, level-high, level-right, left-high}
 use Rattle.td_lang.proofs.Soundness.{fits_lower}
@@ -19,13 +19,13 @@ tree_if : (b : Bool) (c : Phrase) → tree (if b then Parenthesis c else c) ≡ 
 tree_if true c = refl
 tree_if false c = refl
 
-fits_if : (b : Bool) (l m : ℕ) (c : Phrase) → nat_lt m l ≡ b → l ≤ 9 → 1 ≤ m → Fits m c
-    → Fits l (if b then Parenthesis c else c)
+fits_if : (b : Bool) (l m : ℕ) (c : Phrase) → nat_lt m l ≡ b → l ≤ 9 → 1 ≤ m → IsOfLevel m c
+    → IsOfLevel l (if b then Parenthesis c else c)
 fits_if true l m c is high low f = (high, fits_lower c 1 m low f)
 fits_if false l m c is high low f = fits_lower c l m (ltb-false m l is) f
 
 pub record Printed (e : Expr) (l : ℕ) (c : Phrase) : Type 0 where
-  pub fits : Fits l c
+  pub fits : IsOfLevel l c
   pub tree_is : tree c ≡ e
 
 abbrev Again : Expr → Type 0
@@ -181,7 +181,7 @@ keeps true r l m c is low h = absurd (omega (arith, ltb-true m l is))
 keeps false r l m c is low h = h
 
 -- no phrase of the tree has fewer parentheses open at once
-pub least : (c : Phrase) (l r : ℕ) → l ≤ 9 → Fits l c → Shallow r c → Shallow r (phrase_of (tree c) l)
+pub least : (c : Phrase) (l r : ℕ) → l ≤ 9 → IsOfLevel l c → Shallow r c → Shallow r (phrase_of (tree c) l)
 least (Operation o a b) l r high f s = rw (of-Binary o (tree a) (tree b) l)
     (keeps (nat_lt (level o) l) r l (level o) (Operation o (phrase_of (tree a) (left o)) (phrase_of (tree b) (right o)))
     refl f.0 (

@@ -9,7 +9,7 @@ use Rattle.td_lang.specs.declared.token.Token.{Token}
 use Rattle.td_lang.specs.declared.token.Token.TheVariants as token
 use Rattle.td_lang.specs.Lexing.{token_at, HasSpelling}
 use Rattle.td_lang.specs.Printing.{bytes_of}
-use Rattle.td_lang.specs.Spelling.{is_reserved, Spells, Apart, EndsWord}
+use Rattle.td_lang.specs.Spelling.{is_reserved, SpellsToken, Apart, EndsWord}
 use Rattle.td_lang.proofs.TapeUniqueness.{Solid}
 use Rattle.td_lang.proofs.TapeUniqueness as tapes
 use Rattle.td_lang.proofs.TokenReading as respelled
@@ -63,15 +63,15 @@ apart (token.Truth b) more h = ends_word more h
 apart (token.Keyword k) more h = ends_word more h
 
 name_spelled : (n : List ℕ) (t : Bool) → is_reserved n ≡ t → IsIdentifier n
-    → Spells (token.Name n) (if t then 92 ∷ n else n)
+    → SpellsToken (token.Name n) (if t then 92 ∷ n else n)
 name_spelled n true is i = (i, inl refl)
 name_spelled n false is i = (i, inr (refl, is))
 
-number_spelled : (n : ℕ) → n < 2 ^ 63 → Spells (token.Number n) (decimal n)
+number_spelled : (n : ℕ) → n < 2 ^ 63 → SpellsToken (token.Number n) (decimal n)
 number_spelled n h = let d = decimal_is_IsNumeral n (omega arith) in (d.0.0, d.0.1, d.1, h)
 
 -- what is printed is a spelling
-spells : (t : Token) → HasSpelling t → Spells t (bytes_of t)
+spells : (t : Token) → HasSpelling t → SpellsToken t (bytes_of t)
 spells (token.Operator o) h = refl
 spells token.Within h = refl
 spells token.Not h = refl

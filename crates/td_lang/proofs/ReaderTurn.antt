@@ -3,7 +3,7 @@ use Rattle.std.proofs.Common.{◌≡◌, ℕ, zero, suc, ◌+◌, ◌-◌, ◌<�
 use Rattle.std.proofs.Common.{subst, ◌∙◌, arith, length-drop}
 use Rattle.std.proofs.lemmas.List.{drop_more, drop-drop}
 use Rattle.td_lang.specs.declared.token.Token.{Token}
-use Rattle.td_lang.specs.Machine.{Stand, step}
+use Rattle.td_lang.specs.Machine.{MachineState, step}
 use Rattle.td_lang.specs.Lexing.{is_blank, token_at}
 use Rattle.td_lang.specs.Tape.{Tape, tape, at_place, read_tape}
 
@@ -13,7 +13,7 @@ tape_skips (suc k) place [] h = absurd (omega arith)
 tape_skips (suc k) place (b ∷ bs) h =
     tape_skips k (place + 1) bs (omega arith) ∙ ap (λ (p : ℕ). tape 0 p (drop k bs)) (omega arith)
 
-pub here : (b : ℕ) (rest : List ℕ) (place size : ℕ) (token : Token) (s next : Stand) → 0 < size → is_blank b ≡ false
+pub here : (b : ℕ) (rest : List ℕ) (place size : ℕ) (token : Token) (s next : MachineState) → 0 < size → is_blank b ≡ false
     → token_at place (b ∷ rest) ≡ Ok (token, size) → size - 1 ≤ length rest → at_place place (step s token) ≡ Ok next
     → read_tape s (tape 0 place (b ∷ rest)) ≡ read_tape next (tape 0 (place + size) (drop (size - 1) rest))
 here b rest place size token s next some blank found low taken =
@@ -22,7 +22,7 @@ here b rest place size token s next some blank found low taken =
     (tape_skips (size - 1) (place + 1) rest low
     ∙ ap (λ (p : ℕ). tape 0 p (drop (size - 1) rest)) (omega arith)))))
 
-pub turns : (text left : List ℕ) (place size : ℕ) (token : Token) (s next : Stand) → left ≡ drop place text
+pub turns : (text left : List ℕ) (place size : ℕ) (token : Token) (s next : MachineState) → left ≡ drop place text
     → place < length text → 0 < size → size ≤ length left → is_blank (get_or text place 0) ≡ false
     → token_at place left ≡ Ok (token, size) → at_place place (step s token) ≡ Ok next
     → read_tape s (tape 0 place (drop place text)) ≡ read_tape next (tape 0 (place + size) (drop (place + size) text))

@@ -15,7 +15,8 @@ use Rattle.td_lang.specs.declared.expr.Part.{Part}
 use Rattle.td_lang.specs.declared.expr.Part.TheVariants as part
 use Rattle.td_lang.proofs.Conjunction.{and-left, and-right}
 use Rattle.td_lang.proofs.Words.{word_letter}
-use Rattle.td_lang.specs.Recipes.{SpellsPart, Begins, SpellsParts, IsRefusedAt, part_in_front, escape_part, dollar_part}
+use Rattle.td_lang.specs.Recipes.{SpellsPart, BeginsWithPart, SpellsParts, IsRefusedAt, part_in_front, escape_part}
+use Rattle.td_lang.specs.Recipes.{dollar_part}
 use Rattle.td_lang.specs.Recipes.{property_part, named_part}
 
 -- ---- what stands in front is spelled
@@ -175,15 +176,15 @@ front-only (part.Property name) piece more h =
     subst (Leads (part.Property name) more) (sym h.1) (named-only name more h.0)
 
 -- what begins a text is what stands in its front
-pub begins-front : (bytes : List ℕ) (p : Part) (rest : List ℕ) (b : Begins bytes p rest)
+pub begins-front : (bytes : List ℕ) (p : Part) (rest : List ℕ) (b : BeginsWithPart bytes p rest)
     → part_in_front bytes ≡ Some (p, length b.piece)
 begins-front bytes p rest b = ap part_in_front b.whole ∙ front-only p b.piece rest b.spells
 
-pub begins-rest : (bytes : List ℕ) (p : Part) (rest : List ℕ) (b : Begins bytes p rest)
+pub begins-rest : (bytes : List ℕ) (p : Part) (rest : List ℕ) (b : BeginsWithPart bytes p rest)
     → drop (length b.piece) bytes ≡ rest
 begins-rest bytes p rest b = ap (drop (length b.piece)) b.whole ∙ drop_at b.piece rest (length b.piece) refl
 
-front-none : (bytes : List ℕ) → part_in_front bytes ≡ None → (p : Part) (more : List ℕ) → Begins bytes p more → ⊥
+front-none : (bytes : List ℕ) → part_in_front bytes ≡ None → (p : Part) (more : List ℕ) → BeginsWithPart bytes p more → ⊥
 front-none bytes e p more b = let h = begins-front bytes p more b in absurd (cc)
 
 -- ---- reading part by part
@@ -243,20 +244,20 @@ refused text rest place parts so_far lt is e = record {
 
 -- ---- the laws
 
-same-part : (bytes : List ℕ) (p q : Part) (r s : List ℕ) → Begins bytes p r → Begins bytes q s → p ≡ q
+same-part : (bytes : List ℕ) (p q : Part) (r s : List ℕ) → BeginsWithPart bytes p r → BeginsWithPart bytes q s → p ≡ q
 same-part bytes p q r s b c =
     part-is p q (length b.piece) (length c.piece) (sym (begins-front bytes p r b) ∙ begins-front bytes q s c)
 
-same-size : (bytes : List ℕ) (p q : Part) (r s : List ℕ) (b : Begins bytes p r) (c : Begins bytes q s)
+same-size : (bytes : List ℕ) (p q : Part) (r s : List ℕ) (b : BeginsWithPart bytes p r) (c : BeginsWithPart bytes q s)
     → length b.piece ≡ length c.piece
 same-size bytes p q r s b c =
     size-is p q (length b.piece) (length c.piece) (sym (begins-front bytes p r b) ∙ begins-front bytes q s c)
 
-same-rest : (bytes : List ℕ) (p q : Part) (r s : List ℕ) → Begins bytes p r → Begins bytes q s → r ≡ s
+same-rest : (bytes : List ℕ) (p q : Part) (r s : List ℕ) → BeginsWithPart bytes p r → BeginsWithPart bytes q s → r ≡ s
 same-rest bytes p q r s b c =
     sym (begins-rest bytes p r b) ∙ ap (λ (n : ℕ). drop n bytes) (same-size bytes p q r s b c) ∙ begins-rest bytes q s c
 
-nothing-begins : (bytes : List ℕ) (p : Part) (r : List ℕ) → bytes ≡ [] → Begins bytes p r → ⊥
+nothing-begins : (bytes : List ℕ) (p : Part) (r : List ℕ) → bytes ≡ [] → BeginsWithPart bytes p r → ⊥
 nothing-begins bytes p r e b = front-none bytes (ap part_in_front e) p r b
 
 pub one_recipe : (ps qs : List Part) (text : List ℕ) → SpellsParts ps text → SpellsParts qs text → ps ≡ qs
@@ -275,7 +276,7 @@ lead-size p q piece other r s h k e =
     (sym (front-only p piece r h) ∙ ap part_in_front e ∙ front-only q other s k)
 
 -- a part that begins the front begins the whole
-begins-on : (front rest r : List ℕ) (p : Part) → Begins front p r → Begins (front ++ rest) p (r ++ rest)
+begins-on : (front rest r : List ℕ) (p : Part) → BeginsWithPart front p r → BeginsWithPart (front ++ rest) p (r ++ rest)
 begins-on front rest r p b = record {
   piece = b.piece;
   spells = b.spells;
@@ -283,9 +284,9 @@ begins-on front rest r p b = record {
 }
 
 never : (ps qs : List Part) (front rest : List ℕ) → SpellsParts ps front → rest ≢ []
-    → ((p : Part) (more : List ℕ) → Begins rest p more → ⊥) → SpellsParts qs (front ++ rest) → ⊥
+    → ((p : Part) (more : List ℕ) → BeginsWithPart rest p more → ⊥) → SpellsParts qs (front ++ rest) → ⊥
 never [] [] front rest h some none k = some (sym (ap (λ (x : List ℕ). x ++ rest) h) ∙ k)
-never [] (q ∷ qs) front rest h some none k = none q k.0 (subst (λ (x : List ℕ). Begins (x ++ rest) q k.0) h k.1)
+never [] (q ∷ qs) front rest h some none k = none q k.0 (subst (λ (x : List ℕ). BeginsWithPart (x ++ rest) q k.0) h k.1)
 never (p ∷ ps) [] front rest h some none k =
     nothing-begins (front ++ rest) p (h.0 ++ rest) k (begins-on front rest h.0 p h.1)
 never (p ∷ ps) (q ∷ qs) front rest h some none k =
@@ -300,21 +301,21 @@ front-is : (front rest piece r : List ℕ) → front ≡ piece ++ r → piece ++
 front-is front rest piece r e = sym (ap (λ (x : List ℕ). x ++ rest) e ∙ append_assoc piece r rest)
 
 as-far : (ps qs : List Part) (front rest other left : List ℕ) → SpellsParts ps front → SpellsParts qs other
-    → front ++ rest ≡ other ++ left → ((p : Part) (more : List ℕ) → Begins rest p more → ⊥)
-    → ((p : Part) (more : List ℕ) → Begins left p more → ⊥) → length front ≡ length other
+    → front ++ rest ≡ other ++ left → ((p : Part) (more : List ℕ) → BeginsWithPart rest p more → ⊥)
+    → ((p : Part) (more : List ℕ) → BeginsWithPart left p more → ⊥) → length front ≡ length other
 as-far [] [] front rest other left h k e none none' = ap length h ∙ sym (ap length k)
 as-far [] (q ∷ qs) front rest other left h k e none none' =
     let whole : other ++ left ≡ rest = sym e ∙ ap (λ (x : List ℕ). x ++ rest) h in
     absurd (none q (k.0 ++ left)
-    (subst (λ (x : List ℕ). Begins x q (k.0 ++ left)) whole (begins-on other left k.0 q k.1)))
+    (subst (λ (x : List ℕ). BeginsWithPart x q (k.0 ++ left)) whole (begins-on other left k.0 q k.1)))
 as-far (p ∷ ps) [] front rest other left h k e none none' =
     let whole : front ++ rest ≡ left = e ∙ ap (λ (x : List ℕ). x ++ left) k in
     absurd (none' p (h.0 ++ rest)
-    (subst (λ (x : List ℕ). Begins x p (h.0 ++ rest)) whole (begins-on front rest h.0 p h.1)))
+    (subst (λ (x : List ℕ). BeginsWithPart x p (h.0 ++ rest)) whole (begins-on front rest h.0 p h.1)))
 as-far (p ∷ ps) (q ∷ qs) front rest other left h k e none none' =
     let b = begins-on front rest h.0 p h.1 in
-    let c : Begins (front ++ rest) q (k.0 ++ left) =
-    subst (λ (x : List ℕ). Begins x q (k.0 ++ left)) (sym e) (begins-on other left k.0 q k.1) in
+    let c : BeginsWithPart (front ++ rest) q (k.0 ++ left) =
+    subst (λ (x : List ℕ). BeginsWithPart x q (k.0 ++ left)) (sym e) (begins-on other left k.0 q k.1) in
     let back =
     as-far ps qs h.0 rest k.0 left h.2 k.2 (same-rest (front ++ rest) p q (h.0 ++ rest) (k.0 ++ left) b c) none
     none' in
@@ -331,7 +332,7 @@ one_place text place other r s =
     ∙ sym s.there
 
 -- no part begins at a `$`, or a `\` ends the text
-pub refused_bytes : (rest : List ℕ) → rest ≢ [] → ((p : Part) (more : List ℕ) → Begins rest p more → ⊥)
+pub refused_bytes : (rest : List ℕ) → rest ≢ [] → ((p : Part) (more : List ℕ) → BeginsWithPart rest p more → ⊥)
     → (rest ≡ 92 ∷ []) ⊎ (get_or rest 0 0 ≡ 36)
 refused_bytes [] some none = absurd (some refl)
 refused_bytes (b ∷ []) some none = by_byte (nat_eq b 92) (nat_eq b 36) refl refl

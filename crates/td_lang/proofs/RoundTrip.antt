@@ -5,7 +5,7 @@ use Rattle.std.proofs.lemmas.List.{drop_at, append-nil}
 use Rattle.td_lang.specs.declared.expr.Expr.{Expr}
 use Rattle.td_lang.specs.declared.token.Token.{Token}
 use Rattle.td_lang.specs.declared.machine.Stop.{Stop}
-use Rattle.td_lang.specs.Machine.{Stand, step, end_of}
+use Rattle.td_lang.specs.Machine.{MachineState, step, end_of}
 use Rattle.td_lang.specs.Lexing.{token_at, HasSpelling, AllSpelled}
 use Rattle.td_lang.specs.Printing.{bytes_of, put, put_all}
 use Rattle.td_lang.specs.Reading.{run, start, read}
@@ -14,7 +14,7 @@ use Rattle.td_lang.specs.Tape.{Tape, Spot, tape, read_tape, at_place}
 use Rattle.td_lang.proofs.NextToken.{spot_here}
 use Rattle.td_lang.proofs.PrintedTokens.{Spaced, token_again, solid, row_of}
 
-abbrev pub finish : Result Stand Stop → Result Expr Stop
+abbrev pub finish : Result MachineState Stop → Result Expr Stop
 finish r = reading.◌>>=◌ r (λ s. end_of s.stack s.state)
 
 pub apart : (ts : List Token) → Spaced (row_of ts)
@@ -42,21 +42,21 @@ tape_token t rest place spelled with_space =
     ∙ spot_here place size b.first (b.others ++ rest) t b.no_blank (omega (arith, long)) within found
     ∙ ap (λ (x : List ℕ). Spot place t (tape 0 (place + size) x)) on
 
-token_first : (t : Token) (rest : List ℕ) (place : ℕ) (s next : Stand) → HasSpelling t → Spaced rest
+token_first : (t : Token) (rest : List ℕ) (place : ℕ) (s next : MachineState) → HasSpelling t → Spaced rest
     → at_place place (step s t) ≡ Ok next
     → read_tape s (tape 0 place (bytes_of t ++ rest)) ≡ read_tape next (tape 0 (place + length (bytes_of t)) rest)
 token_first t rest place s next spelled with_space taken =
     ap (λ (x : Tape). read_tape s x) (tape_token t rest place spelled with_space) ∙ rw taken refl
 
-stepped : (r : Result Stand Stop) (t : Token) (ts : List Token) (s : Stand) (place : ℕ) (e : Expr) → HasSpelling t
+stepped : (r : Result MachineState Stop) (t : Token) (ts : List Token) (s : MachineState) (place : ℕ) (e : Expr) → HasSpelling t
     → step s t ≡ r → finish (reading.◌>>=◌ r (λ next. run next ts)) ≡ Ok e
-    → ((next : Stand) (p : ℕ) → finish (run next ts) ≡ Ok e → read_tape next (tape 0 p (row_of ts)) ≡ Ok e)
+    → ((next : MachineState) (p : ℕ) → finish (run next ts) ≡ Ok e → read_tape next (tape 0 p (row_of ts)) ≡ Ok e)
     → read_tape s (tape 0 place (bytes_of t ++ row_of ts)) ≡ Ok e
 stepped (Ok next) t ts s place e spelled is h more =
     token_first t (row_of ts) place s next spelled (apart ts) (rw is refl) ∙ more next (place + length (bytes_of t)) h
 stepped (Err x) t ts s place e spelled is h more = absurd (cc)
 
-pub row_reads : (ts : List Token) (s : Stand) (place : ℕ) (e : Expr) → AllSpelled ts → finish (run s ts) ≡ Ok e
+pub row_reads : (ts : List Token) (s : MachineState) (place : ℕ) (e : Expr) → AllSpelled ts → finish (run s ts) ≡ Ok e
     → read_tape s (tape 0 place (row_of ts)) ≡ Ok e
 row_reads [] s place e a h = placed_ok place (end_of s.stack s.state) e h
 row_reads (t ∷ ts) s place e a h =

@@ -15,10 +15,11 @@ use Rattle.td_lang.specs.declared.machine.State.{State}
 use Rattle.td_lang.specs.declared.machine.State.TheVariants as state
 use Rattle.td_lang.specs.declared.machine.Stop.{Stop}
 use Rattle.td_lang.specs.Levels.{level, left, right}
-use Rattle.td_lang.specs.Machine.{Stand, step, step_of, reduction, end_of, takes_not, whole, close_step, operator_step}
+use Rattle.td_lang.specs.Machine.{MachineState, step, step_of, reduction, end_of, takes_not, whole, close_step}
+use Rattle.td_lang.specs.Machine.{operator_step}
 use Rattle.td_lang.specs.Machine.{within_step, operand}
 use Rattle.td_lang.specs.Grammar.{Phrase, Operation, Within, Negation, Existence, PropertyName, Numeral, Negative}
-use Rattle.td_lang.specs.Grammar.{Quoted, Truth, Parenthesis, Fits, tokens, tree, Shallow, Sentence}
+use Rattle.td_lang.specs.Grammar.{Quoted, Truth, Parenthesis, IsOfLevel, tokens, tree, Shallow, Sentence}
 use Rattle.td_lang.specs.Lexing.{HasSpelling}
 use Rattle.td_lang.specs.Reading.{◌>>=◌, run, start, read}
 use Rattle.td_lang.specs.FirstFaults.{Viable}
@@ -28,7 +29,7 @@ use Rattle.td_lang.proofs.Completeness.{needs, level-right, level-high, level-lo
 pub record Holds (below : List Token → Type 0) (room m : ℕ) (e : Expr) (ts : List Token) : Type 0 where
   pub phrase : Phrase
   pub front : List Token
-  pub fits : Fits m phrase
+  pub fits : IsOfLevel m phrase
   pub shallow : Shallow room phrase
   pub tree_is : tree phrase ≡ e
   pub before : below front
@@ -54,7 +55,7 @@ At st d state.AfterMinus ts = Then (Before st d) (token.Operator op.Sub) ts
 At st d (state.AfterIn e) ts = (needs st ≤ 4) × Then (Holds (Before st d) (64 - d) 5 e) token.Within ts
 At st d (state.Done m e) ts = (needs st ≤ m) × (m ≤ 9) × Holds (Before st d) (64 - d) m e ts
 
-pub fits_lower : (c : Phrase) (k m : ℕ) → k ≤ m → Fits m c → Fits k c
+pub fits_lower : (c : Phrase) (k m : ℕ) → k ≤ m → IsOfLevel m c → IsOfLevel k c
 fits_lower (Operation o a b) k m h f = (omega (arith, f.0), f.1, f.2)
 fits_lower (Within a name) k m h f = (omega (arith, f.0), f.1)
 fits_lower (Negation a) k m h f = (omega (arith, f.0), f.1)
@@ -268,16 +269,16 @@ goes_on st d (state.AfterIn e) ts h =
 goes_on st d (state.Done m e) ts h = closes st d m e ts h.0 h.2
 
 -- a step that is taken
-abbrev pub After : Result Stand Stop → List Token → Type 0
+abbrev pub After : Result MachineState Stop → List Token → Type 0
 After (Ok s) ts = At s.stack s.depth s.state ts
 After (Err e) ts = Unit {0}
 
-after_test : (b : Bool) (s : Stand) (e : Stop) (ts : List Token) → (b ≡ false → At s.stack s.depth s.state ts)
+after_test : (b : Bool) (s : MachineState) (e : Stop) (ts : List Token) → (b ≡ false → At s.stack s.depth s.state ts)
     → After (if b then Err e else Ok s) ts
 after_test true s e ts h = tt
 after_test false s e ts h = h refl
 
-after_test_true : (b : Bool) (s : Stand) (e : Stop) (ts : List Token) → (b ≡ true → At s.stack s.depth s.state ts)
+after_test_true : (b : Bool) (s : MachineState) (e : Stop) (ts : List Token) → (b ≡ true → At s.stack s.depth s.state ts)
     → After (if b then Ok s else Err e) ts
 after_test_true true s e ts h = h refl
 after_test_true false s e ts h = tt
@@ -427,14 +428,14 @@ step_at st d (state.Done m e) token.Close ts h =
 step_at st d (state.Done m e) t ts h = tt
 
 then_run : (t : Token) (us : List Token)
-    → ((next : Stand) (xs : List Token) → At next.stack next.depth next.state xs → After (run next us) (xs ++ us))
-    → (r : Result Stand Stop) (ts : List Token) → After r (ts ++ t ∷ [])
+    → ((next : MachineState) (xs : List Token) → At next.stack next.depth next.state xs → After (run next us) (xs ++ us))
+    → (r : Result MachineState Stop) (ts : List Token) → After r (ts ++ t ∷ [])
     → After (r >>= λ next. run next us) (ts ++ t ∷ us)
 then_run t us more (Ok s) ts h =
     subst (λ (xs : List Token). After (run s us) xs) (append_assoc ts (t ∷ []) us) (more s (ts ++ t ∷ []) h)
 then_run t us more (Err e) ts h = tt
 
-pub run_at : (us : List Token) (s : Stand) (ts : List Token) → At s.stack s.depth s.state ts
+pub run_at : (us : List Token) (s : MachineState) (ts : List Token) → At s.stack s.depth s.state ts
     → After (run s us) (ts ++ us)
 run_at [] s ts h = subst (λ (xs : List Token). At s.stack s.depth s.state xs) (sym (append-nil ts)) h
 run_at (t ∷ us) s ts h =
@@ -465,7 +466,7 @@ ends_at state.AfterExist st d ts e h is = absurd (cc)
 ends_at state.AfterMinus st d ts e h is = absurd (cc)
 ends_at (state.AfterIn f) st d ts e h is = absurd (cc)
 
-finds_after : (r : Result Stand Stop) (ts : List Token) (e : Expr) → After r ts
+finds_after : (r : Result MachineState Stop) (ts : List Token) (e : Expr) → After r ts
     → (r >>= λ s. end_of s.stack s.state) ≡ Ok e → Sentence ts e
 finds_after (Ok s) ts e h is = ends_at s.state s.stack s.depth ts e h is
 finds_after (Err x) ts e h is = absurd (cc)
@@ -474,16 +475,16 @@ finds_after (Err x) ts e h is = absurd (cc)
 pub finds : (ts : List Token) (e : Expr) → read ts ≡ Ok e → Sentence ts e
 finds ts e is = finds_after (run start ts) ts e (begins ts) is
 
-viable_after : (r : Result Stand Stop) (s : Stand) (ts : List Token) → After r ts → r ≡ Ok s → Viable ts
+viable_after : (r : Result MachineState Stop) (s : MachineState) (ts : List Token) → After r ts → r ≡ Ok s → Viable ts
 viable_after (Ok x) s ts h is = goes_on x.stack x.depth x.state ts h
 viable_after (Err x) s ts h is = absurd (cc)
 
 -- what is taken may go on to a sentence
-pub viable : (ts : List Token) (s : Stand) → run start ts ≡ Ok s → Viable ts
+pub viable : (ts : List Token) (s : MachineState) → run start ts ≡ Ok s → Viable ts
 viable ts s is = viable_after (run start ts) s ts (begins ts) is
 
 -- what is not taken begins no sentence
-pub not_viable : (ts : List Token) (s : Stand) (t : Token) (e : Stop) → run start ts ≡ Ok s → step s t ≡ Err e
+pub not_viable : (ts : List Token) (s : MachineState) (t : Token) (e : Stop) → run start ts ≡ Ok s → step s t ≡ Err e
     → Viable (ts ++ t ∷ []) → ⊥
 not_viable ts s t e is refused v =
     let all : run start ((ts ++ t ∷ []) ++ v.more) ≡ Err e =

@@ -5,20 +5,21 @@ use Rattle.std.proofs.Common.{option_map}
 use Rattle.std.proofs.lemmas.Bool.{cases_Bool, le-leb, leb-true, lt-leb}
 use Rattle.std.proofs.lemmas.List.{take-append-drop, length-append}
 use Rattle.td_lang.specs.declared.expr.Part.{Part}
-use Rattle.td_lang.specs.Recipes.{SpellsParts, Begins, IsRefusedAt, part_in_front, part_before, parts_of, recipe_of}
+use Rattle.td_lang.specs.Recipes.{SpellsParts, BeginsWithPart, IsRefusedAt, part_in_front, part_before, parts_of}
+use Rattle.td_lang.specs.Recipes.{recipe_of}
 use Rattle.td_lang.proofs.RecipeParts.{begins-front, begins-rest, front-found, not_both}
 
 empty : (most : ℕ) → parts_of most [] ≡ Some []
 empty zero = refl
 empty (suc most) = refl
 
-shorter : (bytes : List ℕ) (p : Part) (rest : List ℕ) (b : Begins bytes p rest) → length rest < length bytes
+shorter : (bytes : List ℕ) (p : Part) (rest : List ℕ) (b : BeginsWithPart bytes p rest) → length rest < length bytes
 shorter bytes p rest b =
     let f = front-found bytes p (length b.piece) (begins-front bytes p rest b) in
     let long : length bytes ≡ length b.piece + length rest = ap length b.whole ∙ length-append b.piece rest in
     omega (arith, f.some, long)
 
-nothing-begins : (p : Part) (rest : List ℕ) → Begins [] p rest → ⊥
+nothing-begins : (p : Part) (rest : List ℕ) → BeginsWithPart [] p rest → ⊥
 nothing-begins p rest b = let h = begins-front [] p rest b in absurd cc
 
 complete : (ps : List Part) (most : ℕ) (text : List ℕ) → SpellsParts ps text → length text ≤ most

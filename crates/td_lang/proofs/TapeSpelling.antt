@@ -2,22 +2,22 @@
 use Rattle.std.proofs.Common.{ℕ, zero, suc, ◌+◌, ◌-◌, Bool, true, false, if◌then◌else◌, List, [], ◌∷◌, Ok, Err}
 use Rattle.td_lang.specs.declared.token.Token.{Token}
 use Rattle.td_lang.specs.declared.token.Token.TheVariants as token
-use Rattle.td_lang.specs.Lexing.{Taken, is_blank, token_at, HasSpelling}
-use Rattle.td_lang.specs.Spelling.{Spells}
+use Rattle.td_lang.specs.Lexing.{NextToken, is_blank, token_at, HasSpelling}
+use Rattle.td_lang.specs.Spelling.{SpellsToken}
 use Rattle.td_lang.specs.Tape.{Tape, Over, Broken, Spot, spot, tape}
 use Rattle.td_lang.proofs.LexerAnswers.{Found}
 use Rattle.td_lang.proofs.TokenSpelling.{token_found}
 
-spelled : (t : Token) (bs : List ℕ) → Spells t bs → HasSpelling t
+spelled : (t : Token) (bs : List ℕ) → SpellsToken t bs → HasSpelling t
 spelled (token.Name n) bs s = s.0
 spelled (token.Number n) bs s = s.3
 spelled t bs s = tt
 
-abbrev Kept : Taken → Type 0
+abbrev Kept : NextToken → Type 0
 Kept (Ok r) = HasSpelling r.0
 Kept (Err f) = Unit {0}
 
-kept : (place : ℕ) (text : List ℕ) (r : Taken) → Found place text r → Kept r
+kept : (place : ℕ) (text : List ℕ) (r : NextToken) → Found place text r → Kept r
 kept place text (Ok r) h = spelled r.0 h.front.spelling h.front.spells
 kept place text (Err f) h = tt
 
@@ -31,7 +31,7 @@ tape_if : (c : Bool) (x y : Tape) → AllOnTape x → AllOnTape y → AllOnTape 
 tape_if true x y h k = h
 tape_if false x y h k = k
 
-spot_kept : (place : ℕ) (r : Taken) (rest : ℕ → Tape) → Kept r → ((k : ℕ) → AllOnTape (rest k))
+spot_kept : (place : ℕ) (r : NextToken) (rest : ℕ → Tape) → Kept r → ((k : ℕ) → AllOnTape (rest k))
     → AllOnTape (spot place r rest)
 spot_kept place (Ok t) rest h more = (h, more (t.1 - 1))
 spot_kept place (Err f) rest h more = tt

@@ -14,9 +14,9 @@ use Rattle.td_lang.specs.declared.token.Keyword.TheVariants as keyword
 use Rattle.td_lang.specs.declared.token.Token.{Token}
 use Rattle.td_lang.specs.declared.token.Token.TheVariants as token
 use Rattle.td_lang.specs.declared.fault.LangFault.{LangFault}
-use Rattle.td_lang.specs.Lexing.{Taken, is_blank, lead, token_at}
+use Rattle.td_lang.specs.Lexing.{NextToken, is_blank, lead, token_at}
 use Rattle.td_lang.specs.Tape.{Tape, Over, Broken, Spot, spot, tape}
-use Rattle.td_lang.specs.Spelling.{is_reserved, Spells, Apart, Front, token_fault, Written}
+use Rattle.td_lang.specs.Spelling.{is_reserved, SpellsToken, Apart, BeginsWithToken, token_fault, SpellsTokens}
 use Rattle.td_lang.proofs.FirstToken.{blank_tape}
 use Rattle.td_lang.proofs.ReaderTurn.{tape_skips}
 use Rattle.td_lang.proofs.LexerAnswers.{Found}
@@ -46,7 +46,7 @@ solid_name w bs i (inr is) =
     let n = named w i in
     record { first = n.first; others = n.others; is = is.0 ∙ n.is; no_blank = letter_no_blank n.first n.letter }
 
-pub solid : (t : Token) (bs : List ℕ) → Spells t bs → Solid bs
+pub solid : (t : Token) (bs : List ℕ) → SpellsToken t bs → Solid bs
 solid (token.Operator op.Or) bs s = record { first = 111; others = _; is = s; no_blank = refl }
 solid (token.Operator op.And) bs s = record { first = 97; others = _; is = s; no_blank = refl }
 solid (token.Operator op.Eq) bs s = record { first = 61; others = _; is = s; no_blank = refl }
@@ -77,8 +77,8 @@ solid (token.Keyword keyword.Max) bs s = record { first = 109; others = _; is = 
 solid (token.Keyword keyword.With) bs s = record { first = 119; others = _; is = s; no_blank = refl }
 
 -- one blank more in front
-blank_more : (ts : Tape) (b : ℕ) (bs : List ℕ) (place : ℕ) → is_blank b ≡ true → Written (place + 1) bs ts
-    → Written place (b ∷ bs) ts
+blank_more : (ts : Tape) (b : ℕ) (bs : List ℕ) (place : ℕ) → is_blank b ≡ true → SpellsTokens (place + 1) bs ts
+    → SpellsTokens place (b ∷ bs) ts
 blank_more (Over end) b bs place is h = (rw is h.0, omega (arith, h.1))
 blank_more (Broken f) b bs place is h =
     let there : place + 1 + length h.gap ≡ place + length (b ∷ h.gap) = omega arith in
@@ -95,7 +95,7 @@ blank_more (Broken f) b bs place is h =
 blank_more (Spot at t rest) b bs place is h =
     (b ∷ h.0, h.1, ap (λ (xs : List ℕ). b ∷ xs) h.2, rw is h.3, omega (arith, h.4), h.5, h.6)
 
-no_front : (place : ℕ) (text : List ℕ) (f : LangFault) → token_at place text ≡ Err f → (t : Token) → Front t text → ⊥
+no_front : (place : ℕ) (text : List ℕ) (f : LangFault) → token_at place text ≡ Err f → (t : Token) → BeginsWithToken t text → ⊥
 no_front place text f is t front =
     let there : token_at place text ≡ token_at place (front.spelling ++ front.more) =
     ap (λ (xs : List ℕ). token_at place xs) front.text_is in
@@ -103,9 +103,9 @@ no_front place text f is t front =
     token_again t place front.spelling front.more front.spells front.apart in
     cc
 
-spot_written : (r : Taken) (place b : ℕ) (bs : List ℕ) → is_blank b ≡ false → token_at place (b ∷ bs) ≡ r
-    → Found place (b ∷ bs) r → ((k : ℕ) → k ≤ length bs → Written (place + 1 + k) (drop k bs) (tape k (place + 1) bs))
-    → Written place (b ∷ bs) (spot place r (λ k. tape k (place + 1) bs))
+spot_written : (r : NextToken) (place b : ℕ) (bs : List ℕ) → is_blank b ≡ false → token_at place (b ∷ bs) ≡ r
+    → Found place (b ∷ bs) r → ((k : ℕ) → k ≤ length bs → SpellsTokens (place + 1 + k) (drop k bs) (tape k (place + 1) bs))
+    → SpellsTokens place (b ∷ bs) (spot place r (λ k. tape k (place + 1) bs))
 spot_written (Err f) place b bs blank is found rest =
     let here : place ≡ place + 0 = omega arith in
     record {
@@ -131,41 +131,41 @@ spot_written (Ok r) place b bs blank is found rest =
     ∙ ap (λ (xs : List ℕ). drop (length front.spelling) xs) front.text_is
     ∙ drop_at front.spelling front.more (length front.spelling) refl in
     let there : place + 1 + k ≡ place + length front.spelling = omega (arith, next, found.size_is) in
-    let written : Written (place + 1 + k) (drop k bs) (tape k (place + 1) bs) =
+    let written : SpellsTokens (place + 1 + k) (drop k bs) (tape k (place + 1) bs) =
     rest k (omega (arith, next, found.size_is, whole)) in
-    let moved : Written (place + length front.spelling) front.more (tape k (place + 1) bs) =
-    subst (λ (p : ℕ). Written p front.more (tape k (place + 1) bs)) there
-    (subst (λ (xs : List ℕ). Written (place + 1 + k) xs (tape k (place + 1) bs)) behind written) in
+    let moved : SpellsTokens (place + length front.spelling) front.more (tape k (place + 1) bs) =
+    subst (λ (p : ℕ). SpellsTokens p front.more (tape k (place + 1) bs)) there
+    (subst (λ (xs : List ℕ). SpellsTokens (place + 1 + k) xs (tape k (place + 1) bs)) behind written) in
     ([], b ∷ bs, refl, refl, omega arith, front, moved)
 
 written_if : (c : Bool) (b : ℕ) (bs : List ℕ) (place : ℕ) → is_blank b ≡ c
-    → Written (place + 1) bs (tape 0 (place + 1) bs)
-    → (c ≡ false → Written place (b ∷ bs) (spot place (token_at place (b ∷ bs)) (λ k. tape k (place + 1) bs)))
-    → Written place (b ∷ bs) (if c then tape 0 (place + 1) bs
+    → SpellsTokens (place + 1) bs (tape 0 (place + 1) bs)
+    → (c ≡ false → SpellsTokens place (b ∷ bs) (spot place (token_at place (b ∷ bs)) (λ k. tape k (place + 1) bs)))
+    → SpellsTokens place (b ∷ bs) (if c then tape 0 (place + 1) bs
     else spot place (token_at place (b ∷ bs)) (λ k. tape k (place + 1) bs))
 written_if true b bs place is h k = blank_more (tape 0 (place + 1) bs) b bs place is h
 written_if false b bs place is h k = k refl
 
 written_from : (bs : List ℕ) (skip place : ℕ) → skip ≤ length bs
-    → Written (place + skip) (drop skip bs) (tape skip place bs)
+    → SpellsTokens (place + skip) (drop skip bs) (tape skip place bs)
 written_from [] zero place h = (refl, omega arith)
 written_from [] (suc skip) place h = absurd (omega arith)
 written_from (b ∷ bs) (suc skip) place h =
     let there : place + 1 + skip ≡ place + suc skip = omega arith in
-    subst (λ (p : ℕ). Written p (drop skip bs) (tape skip (place + 1) bs)) there
+    subst (λ (p : ℕ). SpellsTokens p (drop skip bs) (tape skip (place + 1) bs)) there
     (written_from bs skip (place + 1) (omega arith))
 written_from (b ∷ bs) zero place h =
     let here : place ≡ place + 0 = omega arith in
     let next : place + 1 + 0 ≡ place + 1 = omega arith in
-    let rest : Written (place + 1) bs (tape 0 (place + 1) bs) =
-    subst (λ (p : ℕ). Written p bs (tape 0 (place + 1) bs)) next (written_from bs 0 (place + 1) (omega arith)) in
-    subst (λ (p : ℕ). Written p (b ∷ bs) (tape 0 place (b ∷ bs))) here
+    let rest : SpellsTokens (place + 1) bs (tape 0 (place + 1) bs) =
+    subst (λ (p : ℕ). SpellsTokens p bs (tape 0 (place + 1) bs)) next (written_from bs 0 (place + 1) (omega arith)) in
+    subst (λ (p : ℕ). SpellsTokens p (b ∷ bs) (tape 0 place (b ∷ bs))) here
     (written_if (is_blank b) b bs place refl rest
     (λ blank. spot_written (token_at place (b ∷ bs)) place b bs blank refl (token_found place b bs)
     (λ k low. written_from bs k (place + 1) low)))
 
 -- the tokens of a text are written in it
-pub written : (text : List ℕ) → Written 0 text (tape 0 0 text)
+pub written : (text : List ℕ) → SpellsTokens 0 text (tape 0 0 text)
 written text = written_from text 0 0 (omega arith)
 
 -- and no others
@@ -192,7 +192,7 @@ spot_tape t p b size bs more blank is found =
     ∙ ap (λ (xs : List ℕ). tape 0 (p + size) xs) (drop_at bs more (size - 1) left) in
     rw blank (rw found (ap (λ (rest : Tape). Spot p t rest) on))
 
-front_tape : (t : Token) (p : ℕ) (spelling more : List ℕ) → Spells t spelling → Apart t more
+front_tape : (t : Token) (p : ℕ) (spelling more : List ℕ) → SpellsToken t spelling → Apart t more
     → tape 0 p (spelling ++ more) ≡ Spot p t (tape 0 (p + length spelling) more)
 front_tape t p spelling more spells apart =
     let s = solid t spelling spells in
@@ -201,17 +201,17 @@ front_tape t p spelling more spells apart =
     ap (λ (xs : List ℕ). tape 0 p (xs ++ more)) s.is
     ∙ spot_tape t p s.first (length spelling) s.others more s.no_blank (ap (length {A = ℕ}) s.is) again
 
-halted : (r : Taken) (p : ℕ) (text : List ℕ) (f : LangFault) (rest : ℕ → Tape) → ((t : Token) → Front t text → ⊥)
+halted : (r : NextToken) (p : ℕ) (text : List ℕ) (f : LangFault) (rest : ℕ → Tape) → ((t : Token) → BeginsWithToken t text → ⊥)
     → f ≡ token_fault p text → Found p text r → Broken f ≡ spot p r rest
 halted (Ok r) p text f rest none is found = absurd (none r.0 found.front)
 halted (Err g) p text f rest none is found = ap (λ (x : LangFault). Broken x) (is ∙ sym found)
 
-halts_tape : (p b : ℕ) (bs : List ℕ) (f : LangFault) → is_blank b ≡ false → ((t : Token) → Front t (b ∷ bs) → ⊥)
+halts_tape : (p b : ℕ) (bs : List ℕ) (f : LangFault) → is_blank b ≡ false → ((t : Token) → BeginsWithToken t (b ∷ bs) → ⊥)
     → f ≡ token_fault p (b ∷ bs) → Broken f ≡ tape 0 p (b ∷ bs)
 halts_tape p b bs f blank none is =
     rw blank (halted (token_at p (b ∷ bs)) p (b ∷ bs) f (λ k. tape k (p + 1) bs) none is (token_found p b bs))
 
-pub only : (ts : Tape) (place : ℕ) (text : List ℕ) → Written place text ts → ts ≡ tape 0 place text
+pub only : (ts : Tape) (place : ℕ) (text : List ℕ) → SpellsTokens place text ts → ts ≡ tape 0 place text
 only (Over end) place text h = ap (λ (p : ℕ). Over p) h.1 ∙ sym (blank_tape text place (blank_lead is_blank text h.0))
 only (Broken f) place text h =
     halts_tape (place + length h.gap) h.first h.others f h.no_blank h.none h.fault_is

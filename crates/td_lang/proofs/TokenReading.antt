@@ -20,7 +20,8 @@ use Rattle.td_lang.specs.declared.token.Token.{Token}
 use Rattle.td_lang.specs.declared.token.Token.TheVariants as token
 use Rattle.td_lang.specs.Lexing.{lead, word_token, byte_at, word_at, own_name_at, value_of, number_at, quoted_from}
 use Rattle.td_lang.specs.Lexing.{quoted_of, quoted_at, comparison_at, sign_at, token_at}
-use Rattle.td_lang.specs.Spelling.{operator_word, is_reserved, needs_backslash, inside_quotes, Spells, EndsWord, Apart}
+use Rattle.td_lang.specs.Spelling.{operator_word, is_reserved, needs_backslash, inside_quotes, SpellsToken, EndsWord}
+use Rattle.td_lang.specs.Spelling.{Apart}
 use Rattle.td_lang.proofs.Words.{word_letter}
 
 lead_exact : (p : ℕ → Bool) (w more : List ℕ) → list_all p w ≡ true → p (byte_at more 0) ≡ false
@@ -241,7 +242,7 @@ unfolding token_at sign_at
 parenthesis_close place more = refl
 
 -- each token
-pub token_again : (t : Token) (place : ℕ) (spelling more : List ℕ) → Spells t spelling → Apart t more
+pub token_again : (t : Token) (place : ℕ) (spelling more : List ℕ) → SpellsToken t spelling → Apart t more
     → token_at place (spelling ++ more) ≡ Ok (t, length spelling)
 token_again (token.Operator o) place spelling more s h = rw s (operator_again o place more h)
 token_again token.Within place spelling more s h = rw s (word_again place (codes "in") more refl h)

@@ -15,9 +15,10 @@ use Rattle.td_lang.specs.declared.expr.Op.TheVariants as op
 use Rattle.td_lang.specs.declared.token.Token.{Token}
 use Rattle.td_lang.specs.declared.token.Token.TheVariants as token
 use Rattle.td_lang.specs.declared.fault.LangFault.TheVariants as fault
-use Rattle.td_lang.specs.Lexing.{Taken, lead, byte_at, word_at, own_name_at, onward, value_of, number_of, number_at}
+use Rattle.td_lang.specs.Lexing.{NextToken, lead, byte_at, word_at, own_name_at, onward, value_of, number_of, number_at}
 use Rattle.td_lang.specs.Lexing.{quoted_from, quoted_of, quoted_at, with_equal, comparison_at, sign_at, token_at}
-use Rattle.td_lang.specs.Spelling.{operator_word, needs_backslash, inside_quotes, Spells, EndsWord, Apart, token_fault}
+use Rattle.td_lang.specs.Spelling.{operator_word, needs_backslash, inside_quotes, SpellsToken, EndsWord, Apart}
+use Rattle.td_lang.specs.Spelling.{token_fault}
 use Rattle.td_lang.proofs.Words.{lead_within, all_lead}
 use Rattle.td_lang.proofs.LexerAnswers.{Takes, Found, found_if, syntax_fault, float_fault, plain_fault, digit_plain}
 use Rattle.td_lang.proofs.LexerAnswers.{byte_drop, taken_front, word_found, own_name_found}
@@ -200,7 +201,7 @@ quoted_found place (b ∷ bs) quote =
     (quoted_takes place bs (quoted_from false [] 1 bs) (plain_fault place (39 ∷ bs) refl refl) (inside bs false [] 1))
 
 -- signs
-stands_one : (t : Token) (b c : ℕ) (bs : List ℕ) → (b == c) ≡ true → Spells t (c ∷ []) → Apart t bs → Takes t 1 (b ∷ bs)
+stands_one : (t : Token) (b c : ℕ) (bs : List ℕ) → (b == c) ≡ true → SpellsToken t (c ∷ []) → Apart t bs → Takes t 1 (b ∷ bs)
 stands_one t b c bs is spells apart = record {
   front =
       record {
@@ -214,7 +215,7 @@ stands_one t b c bs is spells apart = record {
 }
 
 stands_two : (t : Token) (b c d : ℕ) (bs : List ℕ) → (b == c) ≡ true → (byte_at bs 0 == suc d) ≡ true
-    → Spells t (c ∷ suc d ∷ []) → ((more : List ℕ) → Apart t more) → Takes t 2 (b ∷ bs)
+    → SpellsToken t (c ∷ suc d ∷ []) → ((more : List ℕ) → Apart t more) → Takes t 2 (b ∷ bs)
 stands_two t b c d [] is next spells apart = let no : 0 ≡ suc d = eqb-true 0 (suc d) next in absurd (omega (arith, no))
 stands_two t b c d (x ∷ bs) is next spells apart = record {
   front =
@@ -243,10 +244,10 @@ unfolding comparison_at
 comparison_found place b bs digit =
     let text = b ∷ bs in
     let next = byte_at bs 0 in
-    let point : Taken = if (b == 46) && is_digit next then Err (fault.Float place) else Err (fault.Syntax place) in
-    let unequal : Taken = if (b == 33) && (next == 61) then Ok (token.Operator op.Ne, 2) else point in
-    let equal : Taken = if (b == 61) && (next == 61) then Ok (token.Operator op.Eq, 2) else unequal in
-    let greater : Taken = if b == 62 then with_equal next op.Ge op.Gt else equal in
+    let point : NextToken = if (b == 46) && is_digit next then Err (fault.Float place) else Err (fault.Syntax place) in
+    let unequal : NextToken = if (b == 33) && (next == 61) then Ok (token.Operator op.Ne, 2) else point in
+    let equal : NextToken = if (b == 61) && (next == 61) then Ok (token.Operator op.Eq, 2) else unequal in
+    let greater : NextToken = if b == 62 then with_equal next op.Ge op.Gt else equal in
     let no_digits : lead is_digit text ≡ 0 = rw digit refl in
     found_if (b == 60) place text (with_equal next op.Le op.Lt) greater
     (λ is. equal_found place b 60 bs op.Le op.Lt is refl refl (λ more. tt) (λ h. h))
@@ -265,12 +266,12 @@ sign_found : (place b : ℕ) (bs : List ℕ) → is_digit b ≡ false → Found 
 unfolding sign_at
 sign_found place b bs digit =
     let text = b ∷ bs in
-    let seventh : Taken = if b == 126 then Ok (token.Operator op.Twiddle, 1) else comparison_at place text in
-    let sixth : Taken = if b == 47 then Ok (token.Operator op.Div, 1) else seventh in
-    let fifth : Taken = if b == 42 then Ok (token.Operator op.Mul, 1) else sixth in
-    let fourth : Taken = if b == 45 then Ok (token.Operator op.Sub, 1) else fifth in
-    let third : Taken = if b == 43 then Ok (token.Operator op.Add, 1) else fourth in
-    let second : Taken = if b == 41 then Ok (token.Close, 1) else third in
+    let seventh : NextToken = if b == 126 then Ok (token.Operator op.Twiddle, 1) else comparison_at place text in
+    let sixth : NextToken = if b == 47 then Ok (token.Operator op.Div, 1) else seventh in
+    let fifth : NextToken = if b == 42 then Ok (token.Operator op.Mul, 1) else sixth in
+    let fourth : NextToken = if b == 45 then Ok (token.Operator op.Sub, 1) else fifth in
+    let third : NextToken = if b == 43 then Ok (token.Operator op.Add, 1) else fourth in
+    let second : NextToken = if b == 41 then Ok (token.Close, 1) else third in
     found_if (b == 40) place text (Ok (token.Open, 1)) second (λ is. stands_one token.Open b 40 bs is refl tt)
     (λ h. found_if (b == 41) place text (Ok (token.Close, 1)) third (λ is. stands_one token.Close b 41 bs is refl tt)
     (λ h. found_if (b == 43) place text (Ok (token.Operator op.Add, 1)) fourth
@@ -289,9 +290,9 @@ pub token_found : (place b : ℕ) (bs : List ℕ) → Found place (b ∷ bs) (to
 unfolding token_at
 token_found place b bs =
     let text = b ∷ bs in
-    let fourth : Taken = if b == 39 then quoted_at place text else sign_at place text in
-    let third : Taken = if b == 92 then own_name_at place text else fourth in
-    let second : Taken = if is_digit b then number_at place text else third in
+    let fourth : NextToken = if b == 39 then quoted_at place text else sign_at place text in
+    let third : NextToken = if b == 92 then own_name_at place text else fourth in
+    let second : NextToken = if is_digit b then number_at place text else third in
     found_if (is_letter b) place text (word_at place text) second (λ is. word_found place text is)
     (λ h. found_if (is_digit b) place text (number_at place text) third (λ is. number_found place text is)
     (λ digit. found_if (b == 92) place text (own_name_at place text) fourth (λ is. own_name_found place text is)

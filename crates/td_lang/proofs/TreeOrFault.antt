@@ -14,20 +14,21 @@ use Rattle.td_lang.specs.declared.machine.Stop.TheVariants as stop
 use Rattle.td_lang.specs.declared.fault.LangFault.{LangFault}
 use Rattle.td_lang.specs.declared.fault.LangFault.TheVariants as fault
 use Rattle.td_lang.specs.Levels.{level, left}
-use Rattle.td_lang.specs.Machine.{size_of, Stand, Step, stand, step, step_of, reduction, end_of, takes_not, whole}
+use Rattle.td_lang.specs.Machine.{size_of, MachineState, MachineStep, stand, step, step_of, reduction, end_of}
+use Rattle.td_lang.specs.Machine.{takes_not, whole}
 use Rattle.td_lang.specs.Machine.{close_step, operand, name_of, size_of, refusal}
 use Rattle.td_lang.specs.Reading.{run, start, read}
 use Rattle.td_lang.specs.Tape.{Tape, Over, Broken, Spot, at_place, read_tape, ◌>>=◌}
-use Rattle.td_lang.specs.FirstFaults.{depth_behind, open_count, fault_of, Answers}
+use Rattle.td_lang.specs.FirstFaults.{depth_behind, open_count, fault_of, ParsesOrFaults}
 use Rattle.td_lang.proofs.Completeness.{run-append, reads}
 use Rattle.td_lang.proofs.Soundness.{finds, viable, not_viable}
 
 -- how a step changes what is open, or which refusal it is
-abbrev Moves : ℕ → Token → Step → Type 0
+abbrev Moves : ℕ → Token → MachineStep → Type 0
 Moves d t (Ok s) = s.depth ≡ depth_behind d t
 Moves d t (Err e) = e ≡ refusal d t
 
-moves_if : (b : Bool) (d : ℕ) (t : Token) (e : Stop) (s : Stand) → (b ≡ true → e ≡ refusal d t)
+moves_if : (b : Bool) (d : ℕ) (t : Token) (e : Stop) (s : MachineState) → (b ≡ true → e ≡ refusal d t)
     → s.depth ≡ depth_behind d t → Moves d t (if b then Err e else Ok s)
 moves_if true d t e s h k = h refl
 moves_if false d t e s h k = k
@@ -100,7 +101,7 @@ step_moves d st (state.Done m e) token.Not = refl
 step_moves d st (state.Done m e) token.Open = refl
 
 -- the fault where a token is refused
-fault_there : (place d : ℕ) (t : Token) → at_place {A = Stand} place (Err (refusal d t)) ≡ Err (fault_of place d t)
+fault_there : (place d : ℕ) (t : Token) → at_place {A = MachineState} place (Err (refusal d t)) ≡ Err (fault_of place d t)
 fault_there place d (token.Name n) = refl
 fault_there place d (token.Number n) = refl
 fault_there place d (token.Quoted t) = refl
@@ -110,7 +111,7 @@ fault_there place d token.Exist = refl
 fault_there place d token.Not = refl
 fault_there place d token.Open = open_there (nat_lt d 64)
   where
-    open_there : (b : Bool) → at_place {A = Stand} place (Err (if b then stop.Refused else stop.Deep))
+    open_there : (b : Bool) → at_place {A = MachineState} place (Err (if b then stop.Refused else stop.Deep))
         ≡ Err (if b then fault.Syntax place else fault.Depth place)
     open_there true = refl
     open_there false = refl
@@ -122,9 +123,9 @@ unclosed-push : (ts : List Token) (d : ℕ) (t : Token) → open_count d (ts ++ 
 unclosed-push [] d t = refl
 unclosed-push (x ∷ ts) d t = unclosed-push ts (depth_behind d x) t
 
-ended : (r : Result Expr Stop) (ts : List Token) (place : ℕ) (s : Stand) → run start ts ≡ Ok s
+ended : (r : Result Expr Stop) (ts : List Token) (place : ℕ) (s : MachineState) → run start ts ≡ Ok s
     → end_of s.stack s.state ≡ r → ((e : Stop) → r ≡ Err e → e ≡ stop.Refused)
-    → Answers ts (Over place) (at_place place r)
+    → ParsesOrFaults ts (Over place) (at_place place r)
 ended (Ok e) ts place s is ends only = finds ts e (rw is ends)
 ended (Err stop.Refused) ts place s is ends only = (
   viable ts s is,
@@ -148,29 +149,29 @@ end_only state.AfterMinus st e h = cc
 end_only (state.AfterIn f) st e h = cc
 
 onward : (a : Result Expr LangFault) (ts : List Token) (place : ℕ) (t : Token) (rest : Tape)
-    → Answers (ts ++ t ∷ []) rest a → Answers ts (Spot place t rest) a
+    → ParsesOrFaults (ts ++ t ∷ []) rest a → ParsesOrFaults ts (Spot place t rest) a
 onward (Ok e) ts place t rest h = h
 onward (Err f) ts place t rest h = inr h
 
-spot_preference : (r : Step) (place : ℕ) (t : Token) (rest : Tape) (ts : List Token) (s : Stand) → run start ts ≡ Ok s
+spot_preference : (r : MachineStep) (place : ℕ) (t : Token) (rest : Tape) (ts : List Token) (s : MachineState) → run start ts ≡ Ok s
     → s.depth ≡ open_count 0 ts → step s t ≡ r → Moves s.depth t r
-    → ((next : Stand) → run start (ts ++ t ∷ []) ≡ Ok next → next.depth ≡ open_count 0 (ts ++ t ∷ [])
-    → Answers (ts ++ t ∷ []) rest (read_tape next rest))
-    → Answers ts (Spot place t rest) (at_place place r >>= λ next. read_tape next rest)
+    → ((next : MachineState) → run start (ts ++ t ∷ []) ≡ Ok next → next.depth ≡ open_count 0 (ts ++ t ∷ [])
+    → ParsesOrFaults (ts ++ t ∷ []) rest (read_tape next rest))
+    → ParsesOrFaults ts (Spot place t rest) (at_place place r >>= λ next. read_tape next rest)
 spot_preference (Ok next) place t rest ts s is depth stepped moves more =
     onward (read_tape next rest) ts place t rest
     (more next (run-append ts start (t ∷ []) ∙ rw is (rw stepped refl))
     (moves ∙ ap (λ (d : ℕ). depth_behind d t) depth ∙ sym (unclosed-push ts 0 t)))
 spot_preference (Err e) place t rest ts s is depth stepped moves more =
-    let there : at_place {A = Stand} place (Err e) ≡ Err (fault_of place (open_count 0 ts) t) =
-    ap (λ (x : Stop). at_place {A = Stand} place (Err x)) moves ∙ fault_there place s.depth t
+    let there : at_place {A = MachineState} place (Err e) ≡ Err (fault_of place (open_count 0 ts) t) =
+    ap (λ (x : Stop). at_place {A = MachineState} place (Err x)) moves ∙ fault_there place s.depth t
     ∙ ap (λ (d : ℕ). Err (fault_of place d t)) depth in
-    subst (λ (r : Result Stand LangFault). Answers ts (Spot place t rest) (r >>= λ next. read_tape next rest))
+    subst (λ (r : Result MachineState LangFault). ParsesOrFaults ts (Spot place t rest) (r >>= λ next. read_tape next rest))
     (sym there)
     (inl (viable ts s is, (λ v. not_viable ts s t e is stepped v), refl))
 
-pub answered : (rest : Tape) (ts : List Token) (s : Stand) → run start ts ≡ Ok s → s.depth ≡ open_count 0 ts
-    → Answers ts rest (read_tape s rest)
+pub answered : (rest : Tape) (ts : List Token) (s : MachineState) → run start ts ≡ Ok s → s.depth ≡ open_count 0 ts
+    → ParsesOrFaults ts rest (read_tape s rest)
 answered (Over place) ts s is depth =
     ended (end_of s.stack s.state) ts place s is refl (λ e h. end_only s.state s.stack e h)
 answered (Broken f) ts s is depth = (viable ts s is, refl)

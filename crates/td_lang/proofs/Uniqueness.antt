@@ -10,17 +10,18 @@ use Rattle.td_lang.specs.declared.token.Token.{Token}
 use Rattle.td_lang.specs.declared.fault.LangFault.{LangFault}
 use Rattle.td_lang.specs.declared.fault.LangFault.TheVariants as fault
 use Rattle.td_lang.specs.Grammar.{Sentence}
-use Rattle.td_lang.specs.FirstFaults.{Viable, Whole, First, Answers}
+use Rattle.td_lang.specs.FirstFaults.{Viable, CompletesTree, First, ParsesOrFaults}
 use Rattle.td_lang.specs.Lexing.{GivesFault}
 use Rattle.td_lang.specs.Reading.{start}
 use Rattle.td_lang.specs.Tape.{Tape, Over, Broken, Spot, tape, read_tape, ◌>>=◌}
-use Rattle.td_lang.specs.Constraints.{IsTreeOrFault, Asks, Says, tape_constraint, constraint_of, UnlessMemory}
+use Rattle.td_lang.specs.Constraints.{IsTreeOrFault, ParsesConstraint, Says, tape_constraint, constraint_of}
+use Rattle.td_lang.specs.Constraints.{UnlessMemory}
 use Rattle.td_lang.proofs.Completeness.{one_tree}
 use Rattle.td_lang.proofs.Soundness.{before_more}
 use Rattle.td_lang.proofs.TreeOrFault.{answered}
 use Rattle.td_lang.proofs.TapeSpelling.{AllOnTape, tape_kept}
 
-whole_viable : (rest : Tape) (ts : List Token) (e : Expr) → AllOnTape rest → Whole ts rest e → Viable ts
+whole_viable : (rest : Tape) (ts : List Token) (e : Expr) → AllOnTape rest → CompletesTree ts rest e → Viable ts
 whole_viable (Over place) ts e own w = record {
   more = [];
   spelled = tt;
@@ -36,12 +37,12 @@ first_viable (Broken g) ts f own h = h.0
 first_viable (Spot place t rest) ts f own (inl h) = h.0
 first_viable (Spot place t rest) ts f own (inr h) = before_more ts t own.0 (first_viable rest (ts ++ t ∷ []) f own.1 h)
 
-trees : (rest : Tape) (ts : List Token) (e f : Expr) → Whole ts rest e → Whole ts rest f → e ≡ f
+trees : (rest : Tape) (ts : List Token) (e f : Expr) → CompletesTree ts rest e → CompletesTree ts rest f → e ≡ f
 trees (Over place) ts e f h k = one_tree ts e f h k
 trees (Broken g) ts e f h k = absurd h
 trees (Spot place t rest) ts e f h k = trees rest (ts ++ t ∷ []) e f h k
 
-tree_or_fault : (rest : Tape) (ts : List Token) (e : Expr) (f : LangFault) → AllOnTape rest → Whole ts rest e
+tree_or_fault : (rest : Tape) (ts : List Token) (e : Expr) (f : LangFault) → AllOnTape rest → CompletesTree ts rest e
     → First ts rest f → ⊥
 tree_or_fault (Over place) ts e f own w h = h.1 e w
 tree_or_fault (Broken g) ts e f own w h = w
@@ -57,8 +58,8 @@ faults (Spot place t rest) ts f g own (inr h) (inl k) = absurd (k.1 (first_viabl
 faults (Spot place t rest) ts f g own (inr h) (inr k) = faults rest (ts ++ t ∷ []) f g own.1 h k
 
 -- tokens have one tree, or one first fault
-pub one_answer : (rest : Tape) (ts : List Token) (r q : Result Expr LangFault) → AllOnTape rest → Answers ts rest r
-    → Answers ts rest q → r ≡ q
+pub one_answer : (rest : Tape) (ts : List Token) (r q : Result Expr LangFault) → AllOnTape rest → ParsesOrFaults ts rest r
+    → ParsesOrFaults ts rest q → r ≡ q
 one_answer rest ts (Ok e) (Ok f) own h k = ap (λ (x : Expr). Ok x) (trees rest ts e f h k)
 one_answer rest ts (Ok e) (Err g) own h k = absurd (tree_or_fault rest ts e g own h k)
 one_answer rest ts (Err f) (Ok e) own h k = absurd (tree_or_fault rest ts e f own k h)
@@ -74,7 +75,7 @@ one_made rest (Ok (constraint.Is e)) (Err g) own h k = absurd (tree_or_fault res
 one_made rest (Err f) (Ok (constraint.Is e)) own h k = absurd (tree_or_fault rest [] e f own k h)
 one_made rest (Err f) (Err g) own h k = ap (λ (x : LangFault). Err x) (faults rest [] f g own h k)
 
-one_asked : (rest : Tape) (r q : Result Constraint LangFault) → AllOnTape rest → Asks rest r → Asks rest q → r ≡ q
+one_asked : (rest : Tape) (r q : Result Constraint LangFault) → AllOnTape rest → ParsesConstraint rest r → ParsesConstraint rest q → r ≡ q
 one_asked (Over place) r q own h k = h ∙ sym k
 one_asked (Broken f) r q own h k = one_made (Broken f) r q own h k
 one_asked (Spot place t rest) r q own h k = one_made (Spot place t rest) r q own h k
@@ -86,12 +87,12 @@ one_said text r q (inl h) (inr k) = absurd (omega (arith, h.0, k.0))
 one_said text r q (inr h) (inl k) = absurd (omega (arith, h.0, k.0))
 one_said text r q (inr h) (inr k) = one_asked (tape 0 0 text) r q (tape_kept text 0 0) h.1 k.1
 
-made_of : (rest : Tape) (r : Result Expr LangFault) → Answers [] rest r
+made_of : (rest : Tape) (r : Result Expr LangFault) → ParsesOrFaults [] rest r
     → IsTreeOrFault rest (r >>= λ e. Ok (constraint.Is e))
 made_of rest (Ok e) h = h
 made_of rest (Err f) h = h
 
-asks_so : (rest : Tape) → Asks rest (tape_constraint rest)
+asks_so : (rest : Tape) → ParsesConstraint rest (tape_constraint rest)
 asks_so (Over place) = refl
 asks_so (Broken f) = answered (Broken f) [] start refl refl
 asks_so (Spot place t rest) =

@@ -6,26 +6,26 @@ use Rattle.td_lang.specs.declared.expr.Constraint.{Constraint}
 use Rattle.td_lang.specs.declared.expr.Constraint.TheVariants as constraint
 use Rattle.td_lang.specs.declared.fault.LangFault.{LangFault}
 use Rattle.td_lang.specs.declared.fault.LangFault.TheVariants as fault
-use Rattle.td_lang.specs.FirstFaults.{Whole, First}
+use Rattle.td_lang.specs.FirstFaults.{CompletesTree, First}
 use Rattle.td_lang.specs.Reading.{start}
 use Rattle.td_lang.specs.Tape.{Tape, Over, Broken, Spot, tape, read_tape, ◌>>=◌}
 
 -- the tokens make this expression, or this is the first fault
 abbrev pub IsTreeOrFault : Tape → Result Constraint LangFault → Type 0
 IsTreeOrFault rest (Ok constraint.Empty) = ⊥
-IsTreeOrFault rest (Ok (constraint.Is e)) = Whole [] rest e
+IsTreeOrFault rest (Ok (constraint.Is e)) = CompletesTree [] rest e
 IsTreeOrFault rest (Err f) = First [] rest f
 
 -- no tokens are the empty constraint
-abbrev pub Asks : Tape → Result Constraint LangFault → Type 0
-Asks (Over place) r = r ≡ Ok constraint.Empty
-Asks (Broken f) r = IsTreeOrFault (Broken f) r
-Asks (Spot place t rest) r = IsTreeOrFault (Spot place t rest) r
+abbrev pub ParsesConstraint : Tape → Result Constraint LangFault → Type 0
+ParsesConstraint (Over place) r = r ≡ Ok constraint.Empty
+ParsesConstraint (Broken f) r = IsTreeOrFault (Broken f) r
+ParsesConstraint (Spot place t rest) r = IsTreeOrFault (Spot place t rest) r
 
 -- the constraint of a text, or its first fault in reading order, by the grammar
 abbrev pub Says : List ℕ → Result Constraint LangFault → Type 0
 Says text r = ((4096 < length text) × (r ≡ Err fault.TooLong))
-    ⊎ ((length text ≤ 4096) × Asks (tape 0 0 text) r)
+    ⊎ ((length text ≤ 4096) × ParsesConstraint (tape 0 0 text) r)
 
 -- the same as the reader finds it
 abbrev pub tape_constraint : Tape → Result Constraint LangFault

@@ -35,10 +35,10 @@ fault_of place d token.Open = if nat_lt d 64 then fault.Syntax place else fault.
 fault_of place d t = fault.Syntax place
 
 -- after these tokens, the rest makes a sentence of this tree
-abbrev pub Whole : List Token → Tape → Expr → Type 0
-Whole ts (Over place) e = Sentence ts e
-Whole ts (Broken f) e = ⊥
-Whole ts (Spot place t rest) e = Whole (ts ++ t ∷ []) rest e
+abbrev pub CompletesTree : List Token → Tape → Expr → Type 0
+CompletesTree ts (Over place) e = Sentence ts e
+CompletesTree ts (Broken f) e = ⊥
+CompletesTree ts (Spot place t rest) e = CompletesTree (ts ++ t ∷ []) rest e
 
 -- after these tokens, this is the first fault: some sentence begins with what stands before it, and none with it
 abbrev pub First : List Token → Tape → LangFault → Type 0
@@ -48,6 +48,6 @@ First ts (Spot place t rest) f =
     (Viable ts × (Viable (ts ++ t ∷ []) → ⊥) × (f ≡ fault_of place (open_count 0 ts) t))
     ⊎ First (ts ++ t ∷ []) rest f
 
-abbrev pub Answers : List Token → Tape → Result Expr LangFault → Type 0
-Answers ts rest (Ok e) = Whole ts rest e
-Answers ts rest (Err f) = First ts rest f
+abbrev pub ParsesOrFaults : List Token → Tape → Result Expr LangFault → Type 0
+ParsesOrFaults ts rest (Ok e) = CompletesTree ts rest e
+ParsesOrFaults ts rest (Err f) = First ts rest f

@@ -23,17 +23,17 @@ pub data Phrase : Type 0 where
   Parenthesis : Phrase → Phrase
 
 -- the phrase is one of the level
-abbrev pub Fits : ℕ → Phrase → Type 0
-Fits l (Operation o a b) = (l ≤ level o) × Fits (left o) a × Fits (right o) b
-Fits l (Within a name) = (l ≤ 4) × Fits 5 a
-Fits l (Negation a) = (l ≤ 8) × Fits 9 a
-Fits l (Existence name) = l ≤ 9
-Fits l (PropertyName name) = l ≤ 9
-Fits l (Numeral n) = l ≤ 9
-Fits l (Negative n) = l ≤ 9
-Fits l (Quoted t) = l ≤ 9
-Fits l (Truth b) = l ≤ 9
-Fits l (Parenthesis a) = (l ≤ 9) × Fits 1 a
+abbrev pub IsOfLevel : ℕ → Phrase → Type 0
+IsOfLevel l (Operation o a b) = (l ≤ level o) × IsOfLevel (left o) a × IsOfLevel (right o) b
+IsOfLevel l (Within a name) = (l ≤ 4) × IsOfLevel 5 a
+IsOfLevel l (Negation a) = (l ≤ 8) × IsOfLevel 9 a
+IsOfLevel l (Existence name) = l ≤ 9
+IsOfLevel l (PropertyName name) = l ≤ 9
+IsOfLevel l (Numeral n) = l ≤ 9
+IsOfLevel l (Negative n) = l ≤ 9
+IsOfLevel l (Quoted t) = l ≤ 9
+IsOfLevel l (Truth b) = l ≤ 9
+IsOfLevel l (Parenthesis a) = (l ≤ 9) × IsOfLevel 1 a
 
 abbrev pub tokens : Phrase → List Token
 tokens (Operation o a b) = tokens a ++ token.Operator o ∷ tokens b
@@ -76,7 +76,7 @@ Shallow r (Parenthesis a) = (0 < r) × Shallow (r - 1) a
 -- the tokens are an expression of the grammar, with at most 64 parentheses open, and this is its tree
 pub record Sentence (ts : List Token) (e : Expr) : Type 0 where
   pub phrase : Phrase
-  pub fits : Fits 1 phrase
+  pub fits : IsOfLevel 1 phrase
   pub shallow : Shallow 64 phrase
   pub spelled : tokens phrase ≡ ts
   pub tree_is : tree phrase ≡ e

@@ -47,21 +47,21 @@ word_token w =
     then token.Exist
     else plain_word w
 
-abbrev pub Taken : Type 0
-Taken = Result (Token × ℕ) LangFault
+abbrev pub NextToken : Type 0
+NextToken = Result (Token × ℕ) LangFault
 
 -- the byte at a place, 0 past the end
 abbrev pub byte_at : List ℕ → ℕ → ℕ
 byte_at text at = slice_index text at
 
 -- the word in front, whose first byte is at place
-unfoldable pub word_at : ℕ → List ℕ → Taken
+unfoldable pub word_at : ℕ → List ℕ → NextToken
 word_at place text =
     let size = lead is_word text in
     if nat_lt 256 size then Err (fault.Syntax place) else Ok (word_token (take size text), size)
 
 -- the name behind a `\` in front
-unfoldable pub own_name_at : ℕ → List ℕ → Taken
+unfoldable pub own_name_at : ℕ → List ℕ → NextToken
 own_name_at place text =
     let name = drop 1 text in
     let size = lead is_word name in
@@ -85,12 +85,12 @@ abbrev pub value_of : ℕ → List ℕ → Option ℕ
 value_of n [] = Some n
 value_of n (b ∷ bs) = onward (with_digit n b) (λ m. value_of m bs)
 
-abbrev pub number_of : ℕ → ℕ → Option ℕ → Taken
+abbrev pub number_of : ℕ → ℕ → Option ℕ → NextToken
 number_of place size (Some n) = Ok (token.Number n, size)
 number_of place size None = Err (fault.Syntax place)
 
 -- the number in front; neither a fraction nor an exponent may follow
-unfoldable pub number_at : ℕ → List ℕ → Taken
+unfoldable pub number_at : ℕ → List ℕ → NextToken
 number_at place text =
     let size = lead is_digit text in
     let next = byte_at text size in
@@ -108,21 +108,21 @@ quoted_from false own size (b ∷ bs) =
     if b == 39 then Some (own, size + 1) else if b == 92 then quoted_from true own (size + 1) bs
     else quoted_from false (own ++ b ∷ []) (size + 1) bs
 
-abbrev pub quoted_of : ℕ → Option (List ℕ × ℕ) → Taken
+abbrev pub quoted_of : ℕ → Option (List ℕ × ℕ) → NextToken
 quoted_of place (Some r) = Ok (token.Quoted r.0, r.1)
 quoted_of place None = Err (fault.Syntax place)
 
 -- the text behind a quote in front
-unfoldable pub quoted_at : ℕ → List ℕ → Taken
+unfoldable pub quoted_at : ℕ → List ℕ → NextToken
 quoted_at place text = quoted_of place (quoted_from false [] 1 (drop 1 text))
 
 -- a sign that is `one`, or `two` where `=` follows
-abbrev pub with_equal : ℕ → Op → Op → Taken
+abbrev pub with_equal : ℕ → Op → Op → NextToken
 with_equal next two one = if next == 61 then Ok (token.Operator two, 2) else Ok
     (token.Operator one, 1)
 
 -- a sign that begins as a comparison
-unfoldable pub comparison_at : ℕ → List ℕ → Taken
+unfoldable pub comparison_at : ℕ → List ℕ → NextToken
 comparison_at place text =
     let b = byte_at text 0 in
     let next = byte_at text 1 in
@@ -132,7 +132,7 @@ comparison_at place text =
     else if (b == 46) && is_digit next then Err (fault.Float place) else Err (fault.Syntax place)
 
 -- any other sign
-unfoldable pub sign_at : ℕ → List ℕ → Taken
+unfoldable pub sign_at : ℕ → List ℕ → NextToken
 sign_at place text =
     let b = byte_at text 0 in
     if b == 40 then Ok (token.Open, 1) else if b == 41 then Ok (token.Close, 1)
@@ -143,7 +143,7 @@ sign_at place text =
     else if b == 126 then Ok (token.Operator op.Twiddle, 1) else comparison_at place text
 
 -- the token in front of a text whose first byte is at place
-unfoldable pub token_at : ℕ → List ℕ → Taken
+unfoldable pub token_at : ℕ → List ℕ → NextToken
 token_at place text =
     let first = byte_at text 0 in
     if is_letter first then word_at place text else if is_digit first then number_at place text

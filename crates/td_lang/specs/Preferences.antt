@@ -19,7 +19,7 @@ use Rattle.td_lang.specs.Reading.{start}
 use Rattle.td_lang.specs.Tape.{Tape, Over, Broken, Spot, tape, read_tape, ◌>>=◌}
 
 -- a word, and then an expression of this tree
-pub record Follows (word : Keyword) (ts : List Token) (e : Expr) : Type 0 where
+pub record FollowsWord (word : Keyword) (ts : List Token) (e : Expr) : Type 0 where
   pub rest : List Token
   pub front : ts ≡ token.Keyword word ∷ rest
   pub sentence : Sentence rest e
@@ -29,9 +29,9 @@ abbrev pub IsPreference : List Token → Preference → Type 0
 IsPreference ts preference.Empty = ts ≡ []
 IsPreference ts preference.First = ts ≡ token.Keyword keyword.First ∷ []
 IsPreference ts preference.Random = ts ≡ token.Keyword keyword.Random ∷ []
-IsPreference ts (preference.Min e) = Follows keyword.Min ts e
-IsPreference ts (preference.Max e) = Follows keyword.Max ts e
-IsPreference ts (preference.With e) = Follows keyword.With ts e
+IsPreference ts (preference.Min e) = FollowsWord keyword.Min ts e
+IsPreference ts (preference.Max e) = FollowsWord keyword.Max ts e
+IsPreference ts (preference.With e) = FollowsWord keyword.With ts e
 
 -- some preference begins so, and goes on by tokens that have a spelling
 pub record ViablePreference (ts : List Token) : Type 0 where
@@ -94,8 +94,8 @@ preference_of text = if nat_lt 4096 (length text) then Err fault.TooLong else ta
 
 -- What a look at a text's next token answers: none is left, or its place, the token and where the text goes on, or no
 -- token stands there.
-abbrev pub Looks : List ℕ → Tape → Result (Option (ℕ × Token × ℕ)) LangFault → Type 0
-Looks text found (Ok None) = (place : ℕ) × (found ≡ Over place)
-Looks text found (Ok (Some t)) = found ≡ Spot t.0 t.1 (tape 0 t.2 (drop t.2 text))
-Looks text found (Err fault.Memory) = Unit {0}
-Looks text found (Err f) = found ≡ Broken f
+abbrev pub LooksAhead : List ℕ → Tape → Result (Option (ℕ × Token × ℕ)) LangFault → Type 0
+LooksAhead text found (Ok None) = (place : ℕ) × (found ≡ Over place)
+LooksAhead text found (Ok (Some t)) = found ≡ Spot t.0 t.1 (tape 0 t.2 (drop t.2 text))
+LooksAhead text found (Err fault.Memory) = Unit {0}
+LooksAhead text found (Err f) = found ≡ Broken f

@@ -13,7 +13,7 @@ use Rattle.td_lang.specs.declared.token.Token.TheVariants as token
 use Rattle.td_lang.specs.Levels.{level, left, right}
 use Rattle.td_lang.specs.Spelling.{operator_word, preference_word, is_reserved, inside_quotes}
 use Rattle.td_lang.specs.Grammar.{Phrase, Operation, Within, Negation, Existence, PropertyName, Numeral, Negative}
-use Rattle.td_lang.specs.Grammar.{Quoted, Truth, Parenthesis, tokens, Fits, Shallow}
+use Rattle.td_lang.specs.Grammar.{Quoted, Truth, Parenthesis, tokens, IsOfLevel, Shallow}
 
 -- ---- the phrase of a tree
 
@@ -114,12 +114,12 @@ plain_layer (layer.Truth b) = true
 abbrev pub plain : Expr → Bool
 plain = fold-Expr Bool plain_layer
 
-abbrev pub IsPlain : Expr → Type 0
-IsPlain e = IsTrue (plain e)
+abbrev pub HasNoParentheses : Expr → Type 0
+HasNoParentheses e = IsTrue (plain e)
 
 -- names, numbers and depth allow that what is printed is read
 abbrev pub CanBeRead : Expr → Type 0
-CanBeRead e = IsPlain e × Shallow 64 (phrase_of e 1)
+CanBeRead e = HasNoParentheses e × Shallow 64 (phrase_of e 1)
 
 -- ---- a phrase without spare parentheses
 
@@ -134,4 +134,4 @@ IsTight l (Numeral n) = Unit {0}
 IsTight l (Negative n) = 0 < n
 IsTight l (Quoted t) = Unit {0}
 IsTight l (Truth b) = Unit {0}
-IsTight l (Parenthesis a) = (Fits l a → ⊥) × IsTight 1 a
+IsTight l (Parenthesis a) = (IsOfLevel l a → ⊥) × IsTight 1 a

@@ -20,7 +20,7 @@ SpellsPart (part.Property name) bytes = IsIdentifier name
     × (bytes ≡ codes "$(" ++ (name ++ codes ")"))
 
 -- the bytes begin with a spelling of the part, and then there is the rest
-pub record Begins (bytes : List ℕ) (p : Part) (rest : List ℕ) : Type 0 where
+pub record BeginsWithPart (bytes : List ℕ) (p : Part) (rest : List ℕ) : Type 0 where
   pub piece : List ℕ
   pub spells : SpellsPart p piece
   pub whole : bytes ≡ piece ++ rest
@@ -28,11 +28,11 @@ pub record Begins (bytes : List ℕ) (p : Part) (rest : List ℕ) : Type 0 where
 -- the text is spellings of the parts, in order
 abbrev pub SpellsParts : List Part → List ℕ → Type 0
 SpellsParts [] text = text ≡ []
-SpellsParts (p ∷ parts) text = (rest : List ℕ) × Begins text p rest × SpellsParts parts rest
+SpellsParts (p ∷ parts) text = (rest : List ℕ) × BeginsWithPart text p rest × SpellsParts parts rest
 
 -- the bytes begin with no part
 abbrev pub BeginsNone : List ℕ → Type 0
-BeginsNone bytes = (p : Part) (rest : List ℕ) → Begins bytes p rest → ⊥
+BeginsNone bytes = (p : Part) (rest : List ℕ) → BeginsWithPart bytes p rest → ⊥
 
 -- up to this place the text is spellings of parts, and no part begins there
 pub record IsRefusedAt (text : List ℕ) (place : ℕ) : Type 0 where

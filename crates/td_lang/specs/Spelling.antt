@@ -62,20 +62,21 @@ inside_quotes (b ∷ bs) = if needs_backslash b then 92 ∷ b ∷ inside_quotes 
     ∷ inside_quotes bs
 
 -- the bytes spell the token
-abbrev pub Spells : Token → List ℕ → Type 0
-Spells (token.Operator o) bs = bs ≡ operator_word o
-Spells token.Within bs = bs ≡ codes "in"
-Spells token.Not bs = bs ≡ codes "not"
-Spells token.Exist bs = bs ≡ codes "exist"
-Spells token.Open bs = bs ≡ codes "("
-Spells token.Close bs = bs ≡ codes ")"
-Spells (token.Name n) bs = IsIdentifier n × ((bs ≡ 92 ∷ n) ⊎ ((bs ≡ n) × (is_reserved n ≡ false)))
-Spells (token.Number n) bs = (0 < length bs) × AllDigits 10 bs × (digits_value 10 bs ≡ n)
+abbrev pub SpellsToken : Token → List ℕ → Type 0
+SpellsToken (token.Operator o) bs = bs ≡ operator_word o
+SpellsToken token.Within bs = bs ≡ codes "in"
+SpellsToken token.Not bs = bs ≡ codes "not"
+SpellsToken token.Exist bs = bs ≡ codes "exist"
+SpellsToken token.Open bs = bs ≡ codes "("
+SpellsToken token.Close bs = bs ≡ codes ")"
+SpellsToken (token.Name n) bs = IsIdentifier n
+    × ((bs ≡ 92 ∷ n) ⊎ ((bs ≡ n) × (is_reserved n ≡ false)))
+SpellsToken (token.Number n) bs = (0 < length bs) × AllDigits 10 bs × (digits_value 10 bs ≡ n)
     × (n < 2 ^ 63)
-Spells (token.Quoted t) bs = bs ≡ 39 ∷ (inside_quotes t ++ 39 ∷ [])
-Spells (token.Truth true) bs = bs ≡ codes "TRUE"
-Spells (token.Truth false) bs = bs ≡ codes "FALSE"
-Spells (token.Keyword k) bs = bs ≡ preference_word k
+SpellsToken (token.Quoted t) bs = bs ≡ 39 ∷ (inside_quotes t ++ 39 ∷ [])
+SpellsToken (token.Truth true) bs = bs ≡ codes "TRUE"
+SpellsToken (token.Truth false) bs = bs ≡ codes "FALSE"
+SpellsToken (token.Keyword k) bs = bs ≡ preference_word k
 
 abbrev pub EndsWord : List ℕ → Type 0
 EndsWord more = is_word (byte_at more 0) ≡ false
@@ -95,11 +96,11 @@ Apart (token.Number n) more = EndsWord more × ((byte_at more 0 == 46) ≡ false
 Apart t more = EndsWord more
 
 -- the token stands in front of the text
-pub record Front (t : Token) (text : List ℕ) : Type 0 where
+pub record BeginsWithToken (t : Token) (text : List ℕ) : Type 0 where
   pub spelling : List ℕ
   pub more : List ℕ
   pub text_is : text ≡ spelling ++ more
-  pub spells : Spells t spelling
+  pub spells : SpellsToken t spelling
   pub apart : Apart t more
 
 -- a number with a fraction or an exponent stands in front, as far as its first byte that is no digit
@@ -121,15 +122,15 @@ pub record Halts (place : ℕ) (text : List ℕ) (f : LangFault) : Type 0 where
   pub text_is : text ≡ gap ++ first ∷ others
   pub blank : IsTrue (list_all is_blank gap)
   pub no_blank : is_blank first ≡ false
-  pub none : (t : Token) → Front t (first ∷ others) → ⊥
+  pub none : (t : Token) → BeginsWithToken t (first ∷ others) → ⊥
   pub fault_is : f ≡ token_fault (place + length gap) (first ∷ others)
 
 -- the text, whose first byte is at place, is spellings of these tokens at their places, with blanks before, between and
 -- behind them, up to its end or to a fault
-abbrev pub Written : ℕ → List ℕ → Tape → Type 0
-Written place text (Over end) = IsTrue (list_all is_blank text) × (end ≡ place + length text)
-Written place text (Broken f) = Halts place text f
-Written place text (Spot at t rest) =
+abbrev pub SpellsTokens : ℕ → List ℕ → Tape → Type 0
+SpellsTokens place text (Over end) = IsTrue (list_all is_blank text) × (end ≡ place + length text)
+SpellsTokens place text (Broken f) = Halts place text f
+SpellsTokens place text (Spot at t rest) =
     (gap : List ℕ) × (behind : List ℕ) × (text ≡ gap ++ behind)
     × IsTrue (list_all is_blank gap) × (at ≡ place + length gap)
-    × (front : Front t behind) × Written (at + length front.spelling) front.more rest
+    × (front : BeginsWithToken t behind) × SpellsTokens (at + length front.spelling) front.more rest

@@ -7,8 +7,8 @@ use Rattle.td_lang.specs.declared.machine.Stop.{Stop}
 use Rattle.td_lang.specs.declared.machine.Stop.TheVariants as stop
 use Rattle.td_lang.specs.declared.fault.LangFault.{LangFault}
 use Rattle.td_lang.specs.declared.fault.LangFault.TheVariants as fault
-use Rattle.td_lang.specs.Machine.{Stand, step, end_of}
-use Rattle.td_lang.specs.Lexing.{is_blank, token_at, Taken}
+use Rattle.td_lang.specs.Machine.{MachineState, step, end_of}
+use Rattle.td_lang.specs.Lexing.{is_blank, token_at, NextToken}
 
 -- the tokens, each with its place, up to the end of the text or to the first bytes that are no token
 pub data Tape : Type 0 where
@@ -16,7 +16,7 @@ pub data Tape : Type 0 where
   Broken : LangFault → Tape
   Spot : ℕ → Token → Tape → Tape
 
-abbrev pub spot : ℕ → Taken → (ℕ → Tape) → Tape
+abbrev pub spot : ℕ → NextToken → (ℕ → Tape) → Tape
 spot place (Ok t) rest = Spot place t.0 (rest (t.1 - 1))
 spot place (Err f) rest = Broken f
 
@@ -41,18 +41,18 @@ abbrev pub ◌>>=◌ : {A B : Type 0} → Result A LangFault → (A → Result B
 (Err e) >>= f = Err e
 
 -- the tree, or the first fault in reading order
-abbrev pub read_tape : Stand → Tape → Result Expr LangFault
+abbrev pub read_tape : MachineState → Tape → Result Expr LangFault
 read_tape s (Over place) = at_place place (end_of s.stack s.state)
 read_tape s (Broken f) = Err f
 read_tape s (Spot place t rest) = at_place place (step s t) >>= λ next. read_tape next rest
 
 -- the same from a place of a text on
-abbrev pub read_at : List ℕ → ℕ → Stand → Result Expr LangFault
+abbrev pub read_at : List ℕ → ℕ → MachineState → Result Expr LangFault
 read_at text place s = read_tape s (tape 0 place (drop place text))
 
 -- Where one turn of the reader leads: the rest is read from there, or it is the fault.
-abbrev pub Turns : {X : Type 0} → (X → Result Expr LangFault) → Result X LangFault
+abbrev pub ParsesOn : {X : Type 0} → (X → Result Expr LangFault) → Result X LangFault
     → Result Expr LangFault → Type 0
-Turns from (Ok x) all = all ≡ from x
-Turns from (Err fault.Memory) all = Unit {0}
-Turns from (Err e) all = all ≡ Err e
+ParsesOn from (Ok x) all = all ≡ from x
+ParsesOn from (Err fault.Memory) all = Unit {0}
+ParsesOn from (Err e) all = all ≡ Err e

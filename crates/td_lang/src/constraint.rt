@@ -25,7 +25,7 @@ pub const LONGEST: usize = 4096;
 ///
 /// `TooLong` above 4,096 bytes. Otherwise the first fault in reading order: `Float` at a number with a
 /// fraction or an exponent, `Depth` at the 65th open parenthesis, `Syntax` at the first token that no
-/// constraint has there, or at the length where the text ends early. `Memory` for want of memory alone.
+/// constraint has there, or at the length where the text ends early. `Memory` only when out of memory.
 #[tactic(auto, using(crate::proofs::Uniqueness::said))]
 pub fn read_constraint(alloc: Global, text: &[u8]) -> Result<Constraint, LangFault>
     ensures says { UnlessMemory (Says text.now) result }

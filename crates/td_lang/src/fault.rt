@@ -22,7 +22,7 @@ pub enum LangFault {
     /// There are more than 4,096 bytes.
     #[error("the text is too long")]
     TooLong,
-    /// Want of memory.
+    /// Out of memory.
     #[error("there is no memory left")]
     Memory,
 }

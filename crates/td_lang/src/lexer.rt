@@ -312,8 +312,8 @@ fn sign_at(place: u32, text: &[u8]) -> Result<(Token, usize), LangFault>
 ///
 /// # Errors
 ///
-/// `Float` and `Syntax` at the place, where no token of the grammar stands there; `Memory` for want of
-/// memory alone.
+/// `Float` and `Syntax` at the place, where no token of the grammar stands there; `Memory` only when
+/// out of memory.
 #[tactic(auto, unfolding(crate::specs::Lexing::token_at))]
 pub fn token_at(alloc: Global, place: u32, text: &[u8]) -> Result<(Token, usize), LangFault>
     ensures gives { GivesFault (λ r. r) result (token_at place text.now) }

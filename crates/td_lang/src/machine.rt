@@ -8,8 +8,8 @@ ghost use Rattle.td_lang.specs.declared.machine.Frame.{Frame};
 ghost use Rattle.td_lang.specs.declared.machine.State.TheVariants.{AfterExist, AfterMinus, AfterIn};
 ghost use Rattle.td_lang.specs.declared.token.Token.TheVariants.{Operator, Within, Not, Open, Close};
 ghost use Rattle.td_lang.specs.declared.expr.Expr.TheVariants.{Binary};
-ghost use Rattle.td_lang.specs.Machine.{IsSmall, reduction, waits, takes_not, step_of, stand, standing, operand_on};
-ghost use Rattle.td_lang.specs.Machine.{end_of, Gives, refusal, operand, suffix, whole};
+ghost use Rattle.td_lang.specs.Machine.{IsSmall, reduction, waits, takes_not, step_of, stand, frames_state, operand_on};
+ghost use Rattle.td_lang.specs.Machine.{end_of, AgreesUnlessNoMemory, refusal, operand, suffix, whole};
 ghost use Rattle.td_lang.specs.Levels.{level, left, right};
 
 use crate::expr::{Expr, Op};
@@ -110,14 +110,14 @@ pub fn right(op: Op) -> u8
 }
 
 /// Finishes what is finished before something of this level follows.
-fn settle(
+fn reduce(
     alloc: Global,
     stack: &mut Vec<Frame>,
     level_of: u8,
     e: Expr,
     next: u8,
 ) -> Result<(u8, Expr), Stop>
-    ensures { Gives (operand_on stack.new.items) result
+    ensures { AgreesUnlessNoMemory (operand_on stack.new.items) result
         (Ok (reduction next (reverse stack.old.items) level_of e)) }
 {
     let mut reached = level_of;
@@ -168,8 +168,8 @@ fn waits(stack: &[Frame], next: u8) -> bool
 ///
 /// # Errors
 ///
-/// `Refused` where the token can't stand here, `Deep` where more parentheses than 64 would be open, or `Memory` for
-/// want of memory.
+/// `Refused` where the token can't stand here, `Deep` where more parentheses than 64 would be open, or `Memory` when
+/// out of memory.
 pub fn step(
     alloc: Global,
     stack: &mut Vec<Frame>,
@@ -179,7 +179,7 @@ pub fn step(
 ) -> Result<(u32, State), Stop>
     requires depth { depth ≤ 64 }
     requires small { IsSmall token }
-    ensures gives { Gives (standing stack.new.items) result
+    ensures gives { AgreesUnlessNoMemory (frames_state stack.new.items) result
         (step_of depth (reverse stack.old.items) state token) }
     ensures depth { IfOk result (λ r. r.0 ≤ 64) }
 {
@@ -195,7 +195,7 @@ pub fn step(
 fn after_exist(depth: u32, token: Token) -> Result<(u32, State), Stop>
     requires depth { depth ≤ 64 }
     ensures gives { (st : List Frame)
-        → Gives (λ r. stand r.0 st r.1) result (step_of depth st AfterExist token) }
+        → AgreesUnlessNoMemory (λ r. stand r.0 st r.1) result (step_of depth st AfterExist token) }
     ensures depth { IfOk result (λ r. r.0 ≤ 64) }
 {
     match token {
@@ -208,7 +208,7 @@ fn after_minus(depth: u32, token: Token) -> Result<(u32, State), Stop>
     requires depth { depth ≤ 64 }
     requires small { IsSmall token }
     ensures gives { (st : List Frame)
-        → Gives (λ r. stand r.0 st r.1) result (step_of depth st AfterMinus token) }
+        → AgreesUnlessNoMemory (λ r. stand r.0 st r.1) result (step_of depth st AfterMinus token) }
     ensures depth { IfOk result (λ r. r.0 ≤ 64) }
 {
     match token {
@@ -220,7 +220,8 @@ fn after_minus(depth: u32, token: Token) -> Result<(u32, State), Stop>
 fn after_in(alloc: Global, depth: u32, item: Expr, token: Token) -> Result<(u32, State), Stop>
     requires depth { depth ≤ 64 }
     ensures gives { (st : List Frame)
-        → Gives (λ r. stand r.0 st r.1) result (step_of depth st (AfterIn item) token) }
+        → AgreesUnlessNoMemory (λ r. stand r.0 st r.1) result
+        (step_of depth st (AfterIn item) token) }
     ensures depth { IfOk result (λ r. r.0 ≤ 64) }
 {
     match token {
@@ -247,7 +248,7 @@ fn refusal(depth: u32, token: &Token) -> Stop
 fn operand(stack: &mut Vec<Frame>, depth: u32, token: Token) -> Result<(u32, State), Stop>
     requires depth { depth ≤ 64 }
     requires small { IsSmall token }
-    ensures gives { Gives (standing stack.new.items) result
+    ensures gives { AgreesUnlessNoMemory (frames_state stack.new.items) result
         (operand depth (reverse stack.old.items) token) }
     ensures depth { IfOk result (λ r. r.0 ≤ 64) }
 {
@@ -267,7 +268,7 @@ fn operand(stack: &mut Vec<Frame>, depth: u32, token: Token) -> Result<(u32, Sta
 /// Takes a `not` where an operand may stand.
 fn deny(stack: &mut Vec<Frame>, depth: u32) -> Result<(u32, State), Stop>
     requires depth { depth ≤ 64 }
-    ensures gives { Gives (standing stack.new.items) result
+    ensures gives { AgreesUnlessNoMemory (frames_state stack.new.items) result
         (operand depth (reverse stack.old.items) Not) }
     ensures depth { IfOk result (λ r. r.0 ≤ 64) }
 {
@@ -281,7 +282,7 @@ fn deny(stack: &mut Vec<Frame>, depth: u32) -> Result<(u32, State), Stop>
 /// Takes a `(` where an operand may stand.
 fn open(stack: &mut Vec<Frame>, depth: u32) -> Result<(u32, State), Stop>
     requires depth { depth ≤ 64 }
-    ensures gives { Gives (standing stack.new.items) result
+    ensures gives { AgreesUnlessNoMemory (frames_state stack.new.items) result
         (operand depth (reverse stack.old.items) Open) }
     ensures depth { IfOk result (λ r. r.0 ≤ 64) }
 {
@@ -308,7 +309,7 @@ fn suffix(
     token: Token,
 ) -> Result<(u32, State), Stop>
     requires { depth ≤ 64 }
-    ensures gives { Gives (standing stack.new.items) result
+    ensures gives { AgreesUnlessNoMemory (frames_state stack.new.items) result
         (suffix depth (reverse stack.old.items) reached e token) }
     ensures depth { IfOk result (λ r. r.0 ≤ 64) }
 {
@@ -333,11 +334,11 @@ fn join(
     op: Op,
 ) -> Result<(u32, State), Stop>
     requires { depth ≤ 64 }
-    ensures gives { Gives (standing stack.new.items) result
+    ensures gives { AgreesUnlessNoMemory (frames_state stack.new.items) result
         (suffix depth (reverse stack.old.items) reached e (Operator op)) }
     ensures depth { IfOk result (λ r. r.0 ≤ 64) }
 {
-    let (reached, found) = settle(alloc, stack, reached, e, level(op))?;
+    let (reached, found) = reduce(alloc, stack, reached, e, level(op))?;
     if reached < left(op) {
         drop(found);
         return Err(Stop::Refused);
@@ -355,11 +356,11 @@ fn look_in(
     e: Expr,
 ) -> Result<(u32, State), Stop>
     requires { depth ≤ 64 }
-    ensures gives { Gives (standing stack.new.items) result
+    ensures gives { AgreesUnlessNoMemory (frames_state stack.new.items) result
         (suffix depth (reverse stack.old.items) reached e Within) }
     ensures depth { IfOk result (λ r. r.0 ≤ 64) }
 {
-    let (reached, found) = settle(alloc, stack, reached, e, 4)?;
+    let (reached, found) = reduce(alloc, stack, reached, e, 4)?;
     if reached < 5 {
         drop(found);
         return Err(Stop::Refused);
@@ -376,11 +377,11 @@ fn close(
     e: Expr,
 ) -> Result<(u32, State), Stop>
     requires { depth ≤ 64 }
-    ensures gives { Gives (standing stack.new.items) result
+    ensures gives { AgreesUnlessNoMemory (frames_state stack.new.items) result
         (suffix depth (reverse stack.old.items) reached e Close) }
     ensures depth { IfOk result (λ r. r.0 ≤ 64) }
 {
-    let (_, found) = settle(alloc, stack, reached, e, 0)?;
+    let (_, found) = reduce(alloc, stack, reached, e, 0)?;
     if !matches!(stack.last(), Some(Frame::Open)) {
         drop(found);
         return Err(Stop::Refused);
@@ -393,9 +394,9 @@ fn close(
 ///
 /// # Errors
 ///
-/// `Refused` where no expression ends here, or `Memory` for want of memory.
+/// `Refused` where no expression ends here, or `Memory` when out of memory.
 pub fn end(alloc: Global, stack: Vec<Frame>, state: State) -> Result<Expr, Stop>
-    ensures { Gives (λ e. e) result (end_of (reverse stack.items) state) }
+    ensures { AgreesUnlessNoMemory (λ e. e) result (end_of (reverse stack.items) state) }
 {
     match state {
         State::Done(reached, found) => whole(alloc, stack, reached, found),
@@ -407,10 +408,11 @@ pub fn end(alloc: Global, stack: Vec<Frame>, state: State) -> Result<Expr, Stop>
 }
 
 fn whole(alloc: Global, stack: Vec<Frame>, reached: u8, e: Expr) -> Result<Expr, Stop>
-    ensures { Gives (λ e. e) result (whole (reduction 0 (reverse stack.items) reached e)) }
+    ensures { AgreesUnlessNoMemory (λ e. e) result
+        (whole (reduction 0 (reverse stack.items) reached e)) }
 {
     let mut stack = stack;
-    let (_, found) = settle(alloc, &mut stack, reached, e, 0)?;
+    let (_, found) = reduce(alloc, &mut stack, reached, e, 0)?;
     if !stack.is_empty() {
         drop(found);
         return Err(Stop::Refused);

@@ -4,7 +4,8 @@ ghost use Rattle.std.specs.Prelude.{◌≡◌, ◌≤◌, drop, length, IfOk, If
 ghost use Rattle.td_lang.specs.declared.expr.Preference.{Preference};
 ghost use Rattle.td_lang.specs.Constraints.{UnlessMemory};
 ghost use Rattle.td_lang.specs.Lexing.{GivesFault};
-ghost use Rattle.td_lang.specs.Preferences.{Prefers, Looks, preference_of, tape_preference, spot_preference, behind};
+ghost use Rattle.td_lang.specs.Preferences.{Prefers, LooksAhead, preference_of, tape_preference, spot_preference};
+ghost use Rattle.td_lang.specs.Preferences.{behind};
 ghost use Rattle.td_lang.specs.Preferences.{alone};
 ghost use Rattle.td_lang.specs.Tape.{tape};
 
@@ -23,7 +24,7 @@ use std::alloc::Global;
 ///
 /// `TooLong` above 4,096 bytes. Otherwise the first fault in reading order: `Float` at a number with a
 /// fraction or an exponent, `Depth` at the 65th open parenthesis, `Syntax` at the first token that no
-/// preference has there, or at the length where the text ends early. `Memory` for want of memory alone.
+/// preference has there, or at the length where the text ends early. `Memory` only when out of memory.
 #[tactic(auto, using(crate::proofs::PreferenceReading::said))]
 pub fn read_preference(alloc: Global, text: &[u8]) -> Result<Preference, LangFault>
     ensures says { UnlessMemory (Prefers text.now) result }
@@ -60,7 +61,7 @@ fn choose(alloc: Global, text: &[u8]) -> Result<Preference, LangFault>
 fn next_token(alloc: Global, text: &[u8], from: u32) -> Result<Option<(u32, Token, u32)>, LangFault>
     requires short { length text.now ≤ 4096 }
     requires place { from ≤ length text.now }
-    ensures looks { Looks text.now (tape 0 from (drop from text.now)) result }
+    ensures looks { LooksAhead text.now (tape 0 from (drop from text.now)) result }
     ensures within { IfOk result (λ found. IfSome found (λ t. t.2 ≤ length text.now)) }
 {
     let (_, rest) = text.split_at(from as usize);

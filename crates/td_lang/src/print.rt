@@ -17,7 +17,7 @@ use td_cdr::{Memory, Text};
 ///
 /// # Errors
 ///
-/// `Memory` for want of memory alone.
+/// `Memory` only when out of memory.
 pub fn print_constraint(alloc: Global, constraint: &Constraint) -> Result<Text, Memory>
     ensures { IfOk result (λ text. text ≡ constraint_text constraint.now) }
 {
@@ -32,7 +32,7 @@ pub fn print_constraint(alloc: Global, constraint: &Constraint) -> Result<Text, 
 ///
 /// # Errors
 ///
-/// `Memory` for want of memory alone.
+/// `Memory` only when out of memory.
 pub fn print_preference(alloc: Global, preference: &Preference) -> Result<Text, Memory>
     ensures { IfOk result (λ text. text ≡ preference_text preference.now) }
 {

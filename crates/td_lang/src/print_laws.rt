@@ -5,7 +5,7 @@ ghost use Rattle.td_lang.specs.declared.expr.Expr.{Expr};
 ghost use Rattle.td_lang.specs.declared.expr.Constraint.{Constraint};
 ghost use Rattle.td_lang.specs.declared.expr.Preference.{Preference};
 ghost use Rattle.td_lang.specs.Constraints.{constraint_of};
-ghost use Rattle.td_lang.specs.Grammar.{Phrase, Fits, Shallow, tree};
+ghost use Rattle.td_lang.specs.Grammar.{Phrase, IsOfLevel, Shallow, tree};
 ghost use Rattle.td_lang.specs.Preferences.{preference_of};
 ghost use Rattle.td_lang.specs.PrintedTexts.{constraint_text, preference_text, IsReadAs, ConstraintCanBeRead};
 ghost use Rattle.td_lang.specs.PrintedTexts.{PreferenceCanBeRead};
@@ -27,10 +27,10 @@ pub fn printed_is_read()
 /// The phrase that is printed is in the grammar and has the tree. It is the only such phrase of which no
 /// pair of parentheses could be left out, and no phrase of the tree has fewer of them open at once.
 pub fn printed_has_least()
-    ensures fits { (e : Expr) → Fits 1 (phrase_of e 1) }
+    ensures fits { (e : Expr) → IsOfLevel 1 (phrase_of e 1) }
     ensures same { (e : Expr) → tree (phrase_of e 1) ≡ e }
     ensures tight { (e : Expr) → IsTight 1 (phrase_of e 1) }
-    ensures only { (c : Phrase) → Fits 1 c → IsTight 1 c → c ≡ phrase_of (tree c) 1 }
-    ensures least { (c : Phrase) (most : ℕ) → Fits 1 c → Shallow most c
+    ensures only { (c : Phrase) → IsOfLevel 1 c → IsTight 1 c → c ≡ phrase_of (tree c) 1 }
+    ensures least { (c : Phrase) (most : ℕ) → IsOfLevel 1 c → Shallow most c
         → Shallow most (phrase_of (tree c) 1) }
 {}

@@ -2,9 +2,9 @@
 
 ghost use Rattle.std.specs.Prelude.{◌≡◌, [], ◌+◌, ◌<◌, ◌≤◌, take, drop, reverse, length, ℕ, Ok, Err, IfOk};
 ghost use Rattle.td_lang.specs.Lexing.{GivesFault, is_blank};
-ghost use Rattle.td_lang.specs.Machine.{IsSmall, standing, step_of, Gives};
+ghost use Rattle.td_lang.specs.Machine.{IsSmall, frames_state, step_of, AgreesUnlessNoMemory};
 ghost use Rattle.td_lang.specs.Reading.{start};
-ghost use Rattle.td_lang.specs.Tape.{read_at, at_place, Turns};
+ghost use Rattle.td_lang.specs.Tape.{read_at, at_place, ParsesOn};
 
 use crate::expr::Expr;
 use crate::fault::LangFault;
@@ -35,7 +35,7 @@ fn step_at(
 ) -> Result<(u32, State), LangFault>
     requires depth { depth ≤ 64 }
     requires small { IsSmall token }
-    ensures gives { GivesFault (standing stack.new.items) result
+    ensures gives { GivesFault (frames_state stack.new.items) result
         (at_place place (step_of depth (reverse stack.old.items) state token)) }
     ensures depth { IfOk result (λ r. r.0 ≤ 64) }
 {
@@ -57,8 +57,9 @@ fn turn(
     requires depth { depth ≤ 64 }
     requires place { place < length text.now }
     requires short { length text.now ≤ 4096 }
-    ensures turns { Turns (λ r. read_at text.now r.2 (standing stack.new.items (r.0, r.1))) result
-        (read_at text.now place (standing stack.old.items (depth, state))) }
+    ensures turns { ParsesOn (λ r. read_at text.now r.2 (frames_state stack.new.items (r.0, r.1)))
+        result
+        (read_at text.now place (frames_state stack.old.items (depth, state))) }
     ensures depth { IfOk result (λ r. r.0 ≤ 64) }
     ensures place { IfOk result (λ r. (place < r.2) × (r.2 ≤ length text.now)) }
 {
@@ -82,7 +83,8 @@ fn turn(
 ///
 /// # Errors
 ///
-/// The fault of the first token that can't be read or can't stand where it does, with its place; or want of memory.
+/// The fault of the first token that can't be read or can't stand where it does, with its place; or running out of
+/// memory.
 pub fn read_from(alloc: Global, text: &[u8], from: u32) -> Result<Expr, LangFault>
     requires short { length text.now ≤ 4096 }
     requires place { from ≤ length text.now }

@@ -18,7 +18,7 @@ use td_cdr::{List, Memory, Text, is_identifier};
 /// # Errors
 ///
 /// `TooLong` above 4,096 bytes, before any other; `Syntax` at the first `$` that begins neither form,
-/// and at a `\` that ends the text; `Memory` for want of memory.
+/// and at a `\` that ends the text; `Memory` when out of memory.
 pub fn read_recipe(alloc: Global, text: &[u8]) -> Result<Recipe, LangFault>
     ensures { ReadsRecipe text.now result }
 {

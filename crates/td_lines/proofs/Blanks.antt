@@ -9,7 +9,7 @@ use Rattle.std.proofs.lemmas.Grind.{common_steps}
 use Rattle.std.proofs.lemmas.List.Splits.{slice_split-cons_yes}
 use Rattle.std.proofs.lemmas.List.Quantifiers.{position-Some}
 use Rattle.td_forms.proofs.Splitting.{split-None, split-Some}
-use Rattle.td_lines.specs.Words.{is_blank, is_empty, words, cut_at, cut_front, cut_word, listed}
+use Rattle.td_lines.specs.Words.{is_blank, is_empty, words, cut_at, cut_front, cut_word, word_list}
 
 words-nil : words [] ≡ []
 unfolding words
@@ -64,7 +64,7 @@ starts-later line zero first e = absurd (false≢true (sym first ∙ e))
 starts-later line (suc i) first e = omega arith
 
 words-front_case : (line : List ℕ) (place : Option ℕ) → position is_blank line ≡ place → 0 < length line
-    → is_blank (get_or line 0 0) ≡ false → words line ≡ listed (Some (cut_at (unwrap_or place (length line)) line))
+    → is_blank (get_or line 0 0) ≡ false → words line ≡ word_list (Some (cut_at (unwrap_or place (length line)) line))
 words-front_case line None e some first = words-all line e some
 words-front_case line (Some i) e some first =
     let found = position-Some is_blank line i 0 e in
@@ -84,17 +84,17 @@ cut-nil : cut_word [] ≡ None
 unfolding cut_word
 cut-nil = refl
 
-words-listed_case : (b : ℕ) (line : List ℕ) (blank : Bool) → is_blank b ≡ blank → words line ≡ listed (cut_word line)
-    → words (b ∷ line) ≡ listed (cut_word (b ∷ line))
+words-listed_case : (b : ℕ) (line : List ℕ) (blank : Bool) → is_blank b ≡ blank → words line ≡ word_list (cut_word line)
+    → words (b ∷ line) ≡ word_list (cut_word (b ∷ line))
 words-listed_case b line true e more =
-    words-blank b line e ∙ more ∙ ap listed (sym (cut-blank b line e))
+    words-blank b line e ∙ more ∙ ap word_list (sym (cut-blank b line e))
 words-listed_case b line false e more =
     words-front_case (b ∷ line) (position is_blank (b ∷ line)) refl (omega arith) e
-    ∙ ap listed (sym (cut-word b line e))
+    ∙ ap word_list (sym (cut-word b line e))
 
 -- the words of a line are its first word, and those of what stands behind it
-pub words-listed : (line : List ℕ) → words line ≡ listed (cut_word line)
-words-listed [] = words-nil ∙ ap listed (sym cut-nil)
+pub words-listed : (line : List ℕ) → words line ≡ word_list (cut_word line)
+words-listed [] = words-nil ∙ ap word_list (sym cut-nil)
 words-listed (b ∷ line) = words-listed_case b line (is_blank b) refl (words-listed line)
 
 -- ---- what the calls answer
@@ -135,11 +135,11 @@ front-shorter line some first = front-shorter_case line (position is_blank line)
 pub found-more : (found : List (List ℕ)) (line word others : List ℕ) (all : List (List ℕ))
     → found ++ words line ≡ all → Some (word, others) ≡ cut_word line → (found ++ word ∷ []) ++ words others ≡ all
 found-more found line word others all same e =
-    let here : words line ≡ word ∷ words others = words-listed line ∙ ap listed (sym e) in
+    let here : words line ≡ word ∷ words others = words-listed line ∙ ap word_list (sym e) in
     append_assoc found (word ∷ []) (words others) ∙ ap (λ x. found ++ x) (sym here) ∙ same
 
 pub found-all : (found : List (List ℕ)) (line : List ℕ) (all : List (List ℕ)) → found ++ words line ≡ all
     → None ≡ cut_word line → found ≡ all
 found-all found line all same e =
-    let here : words line ≡ [] = words-listed line ∙ ap listed (sym e) in
+    let here : words line ≡ [] = words-listed line ∙ ap word_list (sym e) in
     sym (append-nil found) ∙ ap (λ x. found ++ x) (sym here) ∙ same

@@ -19,51 +19,51 @@ use Rattle.td_cdr.specs.Reading.{◌>>=◌}
 use Rattle.td_cdr.specs.Text.{has_nul, HasNoNul}
 use Rattle.td_ior.proofs.Numbers.{and-right}
 use Rattle.td_ior.specs.Number.{number_after, number_below, numeral, port_of}
-use Rattle.td_codes.specs.declared.reference.Ior.{Ior}
+use Rattle.td_typecode.specs.declared.reference.Ior.{Ior}
 use Rattle.td_ops.specs.declared.call.Change.{Change}
 use Rattle.td_ops.specs.declared.call.Change.TheVariants as change
 use Rattle.td_value.specs.declared.enumerations.FollowOption.{FollowOption}
 use Rattle.td_value.specs.declared.structures.PropStruct.{PropStruct}
 use Rattle.td_value.specs.declared.structures.Property.{Property}
 use Rattle.td_lines.specs.Causes.{or_cause, refused_if}
-use Rattle.td_lines.specs.Drafts.{closed, closed_with, has_trader, line_above, nothing_yet, offer_line, type_line}
+use Rattle.td_lines.specs.Drafts.{close_entry, closed_with, has_trader, line_above, nothing_yet, offer_line, type_line}
 use Rattle.td_lines.specs.Drafts.{with_entry}
-use Rattle.td_lines.specs.Heads.{finished, is_declared, last_trader, opened_trader, with_address, with_interface}
+use Rattle.td_lines.specs.Heads.{finish_trader, is_declared, last_trader, opened_trader, with_address, with_interface}
 use Rattle.td_lines.specs.Heads.{with_declared, with_iiop, with_seed, with_set, with_stem, with_trader, with_version}
-use Rattle.td_lines.specs.Homes.{home_told, with_minor}
+use Rattle.td_lines.specs.Homes.{parse_home, with_minor}
 use Rattle.td_lines.specs.Keywords.{begin_of}
-use Rattle.td_lines.specs.Laws.{AreShort, IsSound}
-use Rattle.td_lines.specs.Linked.{ends_told, inside_link, outside_link, rules_told, with_inside, with_link}
+use Rattle.td_lines.specs.Laws.{AreShort, IsValidScript}
+use Rattle.td_lines.specs.Linked.{parse_ends, inside_link, outside_link, parse_rules, with_inside, with_link}
 use Rattle.td_lines.specs.Linked.{with_outside}
-use Rattle.td_lines.specs.Octets.{octets_told, seed_told}
-use Rattle.td_lines.specs.Offered.{new_offer, proxy_told, with_added_property, with_dynamic, with_new_offer}
+use Rattle.td_lines.specs.Octets.{parse_octets, parse_seed}
+use Rattle.td_lines.specs.Offered.{new_offer, parse_proxy, with_added_property, with_dynamic, with_new_offer}
 use Rattle.td_lines.specs.Offered.{with_offer, with_proxy, with_value}
-use Rattle.td_lines.specs.Properties.{dynamic_told, prop_told, property_told}
-use Rattle.td_lines.specs.References.{reference_told}
-use Rattle.td_lines.specs.Scripts.{ended, go_on, rest_of_file, script, script_of, seed_or_zeros}
-use Rattle.td_lines.specs.Steps.{Step, goes, stops, step, with_alone, with_begin, with_belonging, with_head}
+use Rattle.td_lines.specs.Properties.{parse_dynamic, parse_prop, parse_property}
+use Rattle.td_lines.specs.References.{parse_reference}
+use Rattle.td_lines.specs.Scripts.{script_of_draft, go_on, rest_of_file, script, script_of, seed_or_zeros}
+use Rattle.td_lines.specs.Steps.{LineStep, goes, stops, step, with_alone, with_begin, with_belonging, with_head}
 use Rattle.td_lines.specs.Steps.{with_keyword, with_line, with_part}
-use Rattle.td_lines.specs.Settings.{setting_told}
+use Rattle.td_lines.specs.Settings.{parse_setting}
 use Rattle.td_lines.specs.Typed.{new_type, with_added_prop, with_new_type, with_prop, with_type}
 use Rattle.td_lines.specs.Words.{cut_word, five_words, four_words, is_skipped, one_word, three_and_text, three_words}
 use Rattle.td_lines.specs.Words.{two_and_text, two_words, words}
 use Rattle.td_lines.specs.declared.cause.LineCause.{LineCause}
 use Rattle.td_lines.specs.declared.cause.LineCause.TheVariants as cause
-use Rattle.td_lines.specs.declared.draft.Draft.{Draft}
+use Rattle.td_lines.specs.declared.draft.ScriptDraft.{ScriptDraft}
 use Rattle.td_lines.specs.declared.draft.Open.{Open}
 use Rattle.td_lines.specs.declared.draft.Open.TheVariants as opened
 use Rattle.td_lines.specs.declared.draft.ProxyWords.{ProxyWords}
-use Rattle.td_lines.specs.declared.entry.Entry.TheVariants as entry
+use Rattle.td_lines.specs.declared.entry.FileEntry.TheVariants as entry
 use Rattle.td_lines.specs.declared.entry.Home.{Home}
 use Rattle.td_lines.specs.declared.entry.Refused.{Refused}
 use Rattle.td_lines.specs.declared.entry.Script.{Script}
 use Rattle.td_lines.specs.declared.entry.TraderScript.{TraderScript}
-use Rattle.td_lines.specs.declared.keyword.Head.{Head}
-use Rattle.td_lines.specs.declared.keyword.Head.TheVariants as head
+use Rattle.td_lines.specs.declared.keyword.EntryHead.{EntryHead}
+use Rattle.td_lines.specs.declared.keyword.EntryHead.TheVariants as head
 use Rattle.td_lines.specs.declared.keyword.Keyword.{Keyword}
 use Rattle.td_lines.specs.declared.keyword.Keyword.TheVariants.{Begins, Belongs}
-use Rattle.td_lines.specs.declared.keyword.Part.{Part}
-use Rattle.td_lines.specs.declared.keyword.Part.TheVariants as part
+use Rattle.td_lines.specs.declared.keyword.DetailKeyword.{DetailKeyword}
+use Rattle.td_lines.specs.declared.keyword.DetailKeyword.TheVariants as part
 use Rattle.td_lines.proofs.Pairs.{IsHalf, half}
 
 abbrev names_in : List TraderScript → List (List ℕ)
@@ -93,29 +93,29 @@ record Holds (home : Option Home) (seed : Option (List ℕ)) (names : List (List
   pub others : AreShort ended_traders
 
 -- the lines that leave these parts as they are keep this
-abbrev IsDraft : Draft → Type 0
+abbrev IsDraft : ScriptDraft → Type 0
 IsDraft d = Holds d.home d.seed d.names d.finished d.name
 
-abbrev Keeps : Result Draft LineCause → Type 0
+abbrev Keeps : Result ScriptDraft LineCause → Type 0
 Keeps (Ok d) = IsDraft d
 Keeps (Err c) = Unit {0}
 
-keeps-bind : {A : Type 0} (told : Result A LineCause) (f : A → Result Draft LineCause) → ((x : A) → Keeps (f x))
-    → Keeps (told >>= f)
+keeps-bind : {A : Type 0} (content : Result A LineCause) (f : A → Result ScriptDraft LineCause) → ((x : A) → Keeps (f x))
+    → Keeps (content >>= f)
 keeps-bind (Ok x) f h = h x
 keeps-bind (Err c) f h = tt
 
-keeps-if : (test : Bool) (c : LineCause) (told : Result Draft LineCause) → (test ≡ false → Keeps told)
-    → Keeps (refused_if test c told)
-keeps-if true c told h = tt
-keeps-if false c told h = h refl
+keeps-if : (test : Bool) (c : LineCause) (content : Result ScriptDraft LineCause) → (test ≡ false → Keeps content)
+    → Keeps (refused_if test c content)
+keeps-if true c content h = tt
+keeps-if false c content h = h refl
 
 -- ---- lines that begin an entry
 
 abbrev home_with : List ℕ → ℕ → Home
 home_with host port = record { host = host; port = port; minor = 0 }
 
-keeps-home_case : (d : Draft) (host : List ℕ) (large nul : Bool) (port : Option ℕ) → nat_lt 1000 (length host) ≡ large
+keeps-home_case : (d : ScriptDraft) (host : List ℕ) (large nul : Bool) (port : Option ℕ) → nat_lt 1000 (length host) ≡ large
     → has_nul host ≡ nul → IsDraft d
     → Keeps (refused_if (large || nul) cause.Name
     (or_cause cause.Number port >>= λ (n : ℕ). Ok (home_with host n))
@@ -134,35 +134,35 @@ keeps-home_case d host false false (Some n) l e h = record {
   others = h.others;
 }
 
-keeps-home : (d : Draft) (host port : List ℕ) → IsDraft d
-    → Keeps (home_told host port >>= λ (home : Home). Ok (record d { home = Some home }))
+keeps-home : (d : ScriptDraft) (host port : List ℕ) → IsDraft d
+    → Keeps (parse_home host port >>= λ (home : Home). Ok (record d { home = Some home }))
 keeps-home d host port h =
     keeps-home_case d host (nat_lt 1000 (length host)) (has_nul host) (port_of port) refl refl h
 
-keeps-address : (d : Draft) (line : List ℕ) → IsDraft d → Keeps (with_address d line)
+keeps-address : (d : ScriptDraft) (line : List ℕ) → IsDraft d → Keeps (with_address d line)
 unfolding with_address
 keeps-address d line h =
     keeps-bind _ _
     (λ (said : List ℕ × List ℕ). keeps-if (is_some d.home) cause.Twice _ (λ _. keeps-home d said.0 said.1 h))
 
-keeps-when : (test : Bool) (c : LineCause) (told : Result Draft LineCause) → Keeps told → Keeps (refused_if test c told)
-keeps-when test c told h = keeps-if test c told (λ _. h)
+keeps-when : (test : Bool) (c : LineCause) (content : Result ScriptDraft LineCause) → Keeps content → Keeps (refused_if test c content)
+keeps-when test c content h = keeps-if test c content (λ _. h)
 
 -- words, and a test of the place
-keeps-placed : {A : Type 0} (told : Result A LineCause) (test : Bool) (c : LineCause)
-    (rest : A → Result Draft LineCause)
-    → ((x : A) → Keeps (rest x)) → Keeps (told >>= λ x. refused_if test c (rest x))
-keeps-placed told test c rest h =
-    keeps-bind told (λ x. refused_if test c (rest x)) (λ x. keeps-when test c (rest x) (h x))
+keeps-placed : {A : Type 0} (content : Result A LineCause) (test : Bool) (c : LineCause)
+    (rest : A → Result ScriptDraft LineCause)
+    → ((x : A) → Keeps (rest x)) → Keeps (content >>= λ x. refused_if test c (rest x))
+keeps-placed content test c rest h =
+    keeps-bind content (λ x. refused_if test c (rest x)) (λ x. keeps-when test c (rest x) (h x))
 
 -- what is made of what is told
-keeps-made : {A : Type 0} (told : Result A LineCause) (make : A → Draft) → ((x : A) → IsDraft (make x))
-    → Keeps (told >>= λ x. Ok (make x))
-keeps-made told make h = keeps-bind told (λ x. Ok (make x)) h
+keeps-made : {A : Type 0} (content : Result A LineCause) (make : A → ScriptDraft) → ((x : A) → IsDraft (make x))
+    → Keeps (content >>= λ x. Ok (make x))
+keeps-made content make h = keeps-bind content (λ x. Ok (make x)) h
 
 -- what is made of what is told, where that has a property
-keeps-held : {A : Type 0} (P : A → Type 0) (told : Result A LineCause) (make : A → Draft) → IfOk told P
-    → ((x : A) → P x → IsDraft (make x)) → Keeps (told >>= λ x. Ok (make x))
+keeps-held : {A : Type 0} (P : A → Type 0) (content : Result A LineCause) (make : A → ScriptDraft) → IfOk content P
+    → ((x : A) → P x → IsDraft (make x)) → Keeps (content >>= λ x. Ok (make x))
 keeps-held P (Ok x) make p h = h x p
 keeps-held P (Err c) make p h = tt
 
@@ -172,13 +172,13 @@ seed-case digits (Ok os) true e h = omega (arith, h, eqb-true (length digits) 64
 seed-case digits (Err f) true e h = tt
 seed-case digits r false e h = tt
 
-seed-long : (digits : List ℕ) → IfOk (seed_told digits) IsSeed
+seed-long : (digits : List ℕ) → IfOk (parse_seed digits) IsSeed
 seed-long digits = seed-case digits (decode_of digits) (nat_eq (length digits) 64) refl (half digits)
 
-abbrev seeded : Draft → List ℕ → Draft
+abbrev seeded : ScriptDraft → List ℕ → ScriptDraft
 seeded d seed = record d { seed = Some seed }
 
-kept-seed : (d : Draft) (seed : List ℕ) → IsSeed seed → IsDraft d → IsDraft (seeded d seed)
+kept-seed : (d : ScriptDraft) (seed : List ℕ) → IsSeed seed → IsDraft d → IsDraft (seeded d seed)
 kept-seed d seed long h = record {
   host = h.host;
   short = h.short;
@@ -190,15 +190,15 @@ kept-seed d seed long h = record {
   others = h.others;
 }
 
-keeps-seed : (d : Draft) (line : List ℕ) → IsDraft d → Keeps (with_seed d line)
+keeps-seed : (d : ScriptDraft) (line : List ℕ) → IsDraft d → Keeps (with_seed d line)
 unfolding with_seed
 keeps-seed d line h =
     keeps-placed (or_cause cause.Words (one_word line)) (not (is_some d.home) || has_trader d || d.iiop) cause.Place
     (λ (said : List ℕ). refused_if (is_some d.seed) cause.Twice
-    (seed_told said >>= λ (seed : List ℕ). Ok (seeded d seed)))
+    (parse_seed said >>= λ (seed : List ℕ). Ok (seeded d seed)))
     (λ (said : List ℕ). keeps-when (is_some d.seed) cause.Twice
-    (seed_told said >>= λ (seed : List ℕ). Ok (seeded d seed))
-    (keeps-held IsSeed (seed_told said) (seeded d) (seed-long said) (λ (seed : List ℕ) long. kept-seed d seed long h)))
+    (parse_seed said >>= λ (seed : List ℕ). Ok (seeded d seed))
+    (keeps-held IsSeed (parse_seed said) (seeded d) (seed-long said) (λ (seed : List ℕ) long. kept-seed d seed long h)))
 
 abbrev IsVersion : ℕ → Type 0
 IsVersion minor = minor ≤ 1
@@ -231,7 +231,7 @@ homes-version : (home : Option Home) (minor : ℕ) → minor ≤ 1
 homes-version (Some h) minor k = k
 homes-version None minor k = tt
 
-kept-version : (d : Draft) (minor : ℕ) → IsVersion minor → IsDraft d → IsDraft (with_version d minor)
+kept-version : (d : ScriptDraft) (minor : ℕ) → IsVersion minor → IsDraft d → IsDraft (with_version d minor)
 kept-version d minor low h = record {
   host = homes-host d.home minor h.host;
   short = homes-short d.home minor h.short;
@@ -243,7 +243,7 @@ kept-version d minor low h = record {
   others = h.others;
 }
 
-keeps-iiop : (d : Draft) (line : List ℕ) → IsDraft d → Keeps (with_iiop d line)
+keeps-iiop : (d : ScriptDraft) (line : List ℕ) → IsDraft d → Keeps (with_iiop d line)
 unfolding with_iiop
 keeps-iiop d line h =
     keeps-placed (or_cause cause.Words (one_word line)) (not (is_some d.home) || has_trader d) cause.Place
@@ -274,13 +274,13 @@ has-one [] name = refl
 has-one (x ∷ names) name = grind (arith, nat_tests)
 
 -- what is finished where there is a trader, and where there is none
-abbrev finished_at : Bool → Draft → Draft
+abbrev finished_at : Bool → ScriptDraft → ScriptDraft
 finished_at test d =
     if test
     then record d { finished = d.finished ++ last_trader d ∷ []; name = []; interfaces = []; entries = [] }
     else d
 
-keeps-opened : (d : Draft) (name : List ℕ) (test : Bool) → has_trader d ≡ test → IsDraft d → length name ≤ 32
+keeps-opened : (d : ScriptDraft) (name : List ℕ) (test : Bool) → has_trader d ≡ test → IsDraft d → length name ≤ 32
     → list_any (bytes_eq name) d.names ≡ false → IsDraft (opened_trader (finished_at test d) name)
 keeps-opened d name true e h fits apart =
     let before : names_in d.finished ++ d.name ∷ [] ≡ d.names =
@@ -311,40 +311,40 @@ keeps-opened d name false e h fits apart =
       others = h.others;
     }
 
-keeps-trader : (d : Draft) (line : List ℕ) → IsDraft d → Keeps (with_trader d line)
+keeps-trader : (d : ScriptDraft) (line : List ℕ) → IsDraft d → Keeps (with_trader d line)
 unfolding with_trader
 keeps-trader d line h =
     keeps-placed (or_cause cause.Words (one_word line)) (not (is_some d.home) || nat_le 64 (length d.names)) cause.Place
     (λ (said : List ℕ). refused_if (not (trader_name said)) cause.Name
-    (refused_if (list_any (bytes_eq said) d.names) cause.Twice (Ok (opened_trader (finished d) said))))
+    (refused_if (list_any (bytes_eq said) d.names) cause.Twice (Ok (opened_trader (finish_trader d) said))))
     (λ (said : List ℕ). keeps-if (not (trader_name said)) cause.Name
-    (refused_if (list_any (bytes_eq said) d.names) cause.Twice (Ok (opened_trader (finished d) said)))
-    (λ rightly. keeps-if (list_any (bytes_eq said) d.names) cause.Twice (Ok (opened_trader (finished d) said))
+    (refused_if (list_any (bytes_eq said) d.names) cause.Twice (Ok (opened_trader (finish_trader d) said)))
+    (λ rightly. keeps-if (list_any (bytes_eq said) d.names) cause.Twice (Ok (opened_trader (finish_trader d) said))
     (λ apart. keeps-opened d said (has_trader d) refl h (short-name said rightly) apart)))
 
-abbrev stemmed : Draft → ℕ → List ℕ → Draft
+abbrev stemmed : ScriptDraft → ℕ → List ℕ → ScriptDraft
 stemmed d n stem = with_entry d n (entry.Change (change.SetRequestIdStem stem))
 
-keeps-stem : (d : Draft) (n : ℕ) (line : List ℕ) → IsDraft d → Keeps (with_stem d n line)
+keeps-stem : (d : ScriptDraft) (n : ℕ) (line : List ℕ) → IsDraft d → Keeps (with_stem d n line)
 unfolding with_stem
 keeps-stem d n line h =
     keeps-placed (or_cause cause.Words (one_word line)) (not (has_trader d)) cause.Place
-    (λ (said : List ℕ). octets_told said >>= λ (stem : List ℕ). Ok (stemmed d n stem))
-    (λ (said : List ℕ). keeps-made (octets_told said) (stemmed d n)
+    (λ (said : List ℕ). parse_octets said >>= λ (stem : List ℕ). Ok (stemmed d n stem))
+    (λ (said : List ℕ). keeps-made (parse_octets said) (stemmed d n)
     (λ stem. h))
 
-abbrev changed : Draft → ℕ → Change → Draft
+abbrev changed : ScriptDraft → ℕ → Change → ScriptDraft
 changed d n c = with_entry d n (entry.Change c)
 
-keeps-set : (d : Draft) (n : ℕ) (line : List ℕ) → IsDraft d → Keeps (with_set d n line)
+keeps-set : (d : ScriptDraft) (n : ℕ) (line : List ℕ) → IsDraft d → Keeps (with_set d n line)
 unfolding with_set
 keeps-set d n line h =
     keeps-placed (or_cause cause.Words (two_words line)) (not (has_trader d)) cause.Place
-    (λ (said : List ℕ × List ℕ). setting_told said.0 said.1 >>= λ (set : Change). Ok (changed d n set))
-    (λ (said : List ℕ × List ℕ). keeps-made (setting_told said.0 said.1) (changed d n)
+    (λ (said : List ℕ × List ℕ). parse_setting said.0 said.1 >>= λ (set : Change). Ok (changed d n set))
+    (λ (said : List ℕ × List ℕ). keeps-made (parse_setting said.0 said.1) (changed d n)
     (λ set. h))
 
-keeps-interface : (d : Draft) (line : List ℕ) → IsDraft d → Keeps (with_interface d line)
+keeps-interface : (d : ScriptDraft) (line : List ℕ) → IsDraft d → Keeps (with_interface d line)
 unfolding with_interface
 keeps-interface d line h =
     keeps-placed (or_cause cause.Words (cut_word line)) (not (has_trader d) || d.typed) cause.Place
@@ -359,10 +359,10 @@ keeps-interface d line h =
     (keeps-when (list_any has_nul (words said.1)) cause.Name (Ok (with_declared d said.0 (words said.1)))
     h)))
 
-abbrev typed_by : Draft → ℕ → List ℕ × List ℕ → List ℕ × List ℕ → Draft
+abbrev typed_by : ScriptDraft → ℕ → List ℕ × List ℕ → List ℕ × List ℕ → ScriptDraft
 typed_by d n name if_name = with_new_type d (new_type n name.0 if_name.0 if_name.1)
 
-keeps-type : (d : Draft) (n : ℕ) (line : List ℕ) → IsDraft d → Keeps (with_type d n line)
+keeps-type : (d : ScriptDraft) (n : ℕ) (line : List ℕ) → IsDraft d → Keeps (with_type d n line)
 unfolding with_type
 keeps-type d n line h =
     keeps-bind (or_cause cause.Words (cut_word line))
@@ -375,63 +375,63 @@ keeps-type d n line h =
     (λ (if_name : List ℕ × List ℕ). keeps-when (has_nul if_name.0) cause.Name (Ok (typed_by d n name if_name))
     h))
 
-abbrev offered_by : Draft → ℕ → List ℕ → Ior → Draft
+abbrev offered_by : ScriptDraft → ℕ → List ℕ → Ior → ScriptDraft
 offered_by d n name reference = with_new_offer d (new_offer n name reference None)
 
-keeps-offer : (d : Draft) (n : ℕ) (line : List ℕ) → IsDraft d → Keeps (with_offer d n line)
+keeps-offer : (d : ScriptDraft) (n : ℕ) (line : List ℕ) → IsDraft d → Keeps (with_offer d n line)
 unfolding with_offer
 keeps-offer d n line h =
     keeps-placed (or_cause cause.Words (two_words line)) (not (has_trader d)) cause.Place
-    (λ (said : List ℕ × List ℕ). reference_told said.1 >>= λ (r : Ior). Ok (offered_by d n said.0 r))
-    (λ (said : List ℕ × List ℕ). keeps-made (reference_told said.1) (offered_by d n said.0)
+    (λ (said : List ℕ × List ℕ). parse_reference said.1 >>= λ (r : Ior). Ok (offered_by d n said.0 r))
+    (λ (said : List ℕ × List ℕ). keeps-made (parse_reference said.1) (offered_by d n said.0)
     (λ r. h))
 
-abbrev proxied_by : Draft → ℕ → List ℕ → Ior → ProxyWords → Draft
+abbrev proxied_by : ScriptDraft → ℕ → List ℕ → Ior → ProxyWords → ScriptDraft
 proxied_by d n name reference proxy = with_new_offer d (new_offer n name reference (Some proxy))
 
-keeps-proxy : (d : Draft) (n : ℕ) (line : List ℕ) → IsDraft d → Keeps (with_proxy d n line)
+keeps-proxy : (d : ScriptDraft) (n : ℕ) (line : List ℕ) → IsDraft d → Keeps (with_proxy d n line)
 unfolding with_proxy
 keeps-proxy d n line h =
     keeps-placed (or_cause cause.Words (three_and_text line)) (not (has_trader d)) cause.Place
-    (λ (said : List ℕ × List ℕ × List ℕ × List ℕ). reference_told said.1 >>= λ (r : Ior).
-    proxy_told said.2 said.3 >>= λ (p : ProxyWords). Ok (proxied_by d n said.0 r p))
-    (λ (said : List ℕ × List ℕ × List ℕ × List ℕ). keeps-bind (reference_told said.1)
-    (λ (r : Ior). proxy_told said.2 said.3 >>= λ (p : ProxyWords). Ok (proxied_by d n said.0 r p))
-    (λ (r : Ior). keeps-made (proxy_told said.2 said.3) (proxied_by d n said.0 r)
+    (λ (said : List ℕ × List ℕ × List ℕ × List ℕ). parse_reference said.1 >>= λ (r : Ior).
+    parse_proxy said.2 said.3 >>= λ (p : ProxyWords). Ok (proxied_by d n said.0 r p))
+    (λ (said : List ℕ × List ℕ × List ℕ × List ℕ). keeps-bind (parse_reference said.1)
+    (λ (r : Ior). parse_proxy said.2 said.3 >>= λ (p : ProxyWords). Ok (proxied_by d n said.0 r p))
+    (λ (r : Ior). keeps-made (parse_proxy said.2 said.3) (proxied_by d n said.0 r)
     (λ p. h)))
 
-abbrev outside : Draft → ℕ → List ℕ → Ior × Option Ior → FollowOption × FollowOption → Draft
+abbrev outside : ScriptDraft → ℕ → List ℕ → Ior × Option Ior → FollowOption × FollowOption → ScriptDraft
 outside d n name ends rules = with_entry d n (outside_link name ends.0 ends.1 rules.0 rules.1)
 
-keeps-outside : (d : Draft) (n : ℕ) (line : List ℕ) → IsDraft d → Keeps (with_outside d n line)
+keeps-outside : (d : ScriptDraft) (n : ℕ) (line : List ℕ) → IsDraft d → Keeps (with_outside d n line)
 unfolding with_outside
 keeps-outside d n line h =
     keeps-placed (or_cause cause.Words (five_words line)) (not (has_trader d)) cause.Place
-    (λ (said : List ℕ × List ℕ × List ℕ × List ℕ × List ℕ). ends_told said.1 said.2 >>= λ (ends : Ior × Option Ior).
-    rules_told said.3 said.4 >>= λ (rules : FollowOption × FollowOption). Ok (outside d n said.0 ends rules))
-    (λ (said : List ℕ × List ℕ × List ℕ × List ℕ × List ℕ). keeps-bind (ends_told said.1 said.2)
-    (λ (ends : Ior × Option Ior). rules_told said.3 said.4 >>= λ (rules : FollowOption × FollowOption).
+    (λ (said : List ℕ × List ℕ × List ℕ × List ℕ × List ℕ). parse_ends said.1 said.2 >>= λ (ends : Ior × Option Ior).
+    parse_rules said.3 said.4 >>= λ (rules : FollowOption × FollowOption). Ok (outside d n said.0 ends rules))
+    (λ (said : List ℕ × List ℕ × List ℕ × List ℕ × List ℕ). keeps-bind (parse_ends said.1 said.2)
+    (λ (ends : Ior × Option Ior). parse_rules said.3 said.4 >>= λ (rules : FollowOption × FollowOption).
     Ok (outside d n said.0 ends rules))
-    (λ (ends : Ior × Option Ior). keeps-made (rules_told said.3 said.4) (outside d n said.0 ends)
+    (λ (ends : Ior × Option Ior). keeps-made (parse_rules said.3 said.4) (outside d n said.0 ends)
     (λ rules. h)))
 
-abbrev inside : Draft → ℕ → (name trader : List ℕ) → FollowOption × FollowOption → Draft
+abbrev inside : ScriptDraft → ℕ → (name trader : List ℕ) → FollowOption × FollowOption → ScriptDraft
 inside d n name trader rules = with_entry d n (inside_link name trader rules.0 rules.1)
 
-keeps-inside : (d : Draft) (n : ℕ) (line : List ℕ) (said : Option (List ℕ × List ℕ × List ℕ × List ℕ)) → IsDraft d
+keeps-inside : (d : ScriptDraft) (n : ℕ) (line : List ℕ) (said : Option (List ℕ × List ℕ × List ℕ × List ℕ)) → IsDraft d
     → Keeps (with_inside d n line said)
 keeps-inside d n line None h = keeps-outside d n line h
 keeps-inside d n line (Some said) h =
     keeps-when (not (has_trader d)) cause.Place
-    (rules_told said.2 said.3 >>= λ (rules : FollowOption × FollowOption). Ok (inside d n said.0 said.1 rules))
-    (keeps-made (rules_told said.2 said.3) (inside d n said.0 said.1)
+    (parse_rules said.2 said.3 >>= λ (rules : FollowOption × FollowOption). Ok (inside d n said.0 said.1 rules))
+    (keeps-made (parse_rules said.2 said.3) (inside d n said.0 said.1)
     (λ rules. h))
 
-keeps-link : (d : Draft) (n : ℕ) (line : List ℕ) → IsDraft d → Keeps (with_link d n line)
+keeps-link : (d : ScriptDraft) (n : ℕ) (line : List ℕ) → IsDraft d → Keeps (with_link d n line)
 unfolding with_link
 keeps-link d n line h = keeps-inside d n line (four_words line) h
 
-keeps-head : (d : Draft) (n : ℕ) (k : Head) (line : List ℕ) → IsDraft d → Keeps (with_head d n k line)
+keeps-head : (d : ScriptDraft) (n : ℕ) (k : EntryHead) (line : List ℕ) → IsDraft d → Keeps (with_head d n k line)
 keeps-head d n head.Address line h = keeps-address d line h
 keeps-head d n head.Seed line h = keeps-seed d line h
 keeps-head d n head.Iiop line h = keeps-iiop d line h
@@ -446,103 +446,103 @@ keeps-head d n head.Link line h = keeps-link d n line h
 
 -- ---- lines that belong to an entry
 
-keeps-added_prop : (d : Draft) (above : Open) (p : PropStruct) → IsDraft d → Keeps (with_added_prop d above p)
+keeps-added_prop : (d : ScriptDraft) (above : Open) (p : PropStruct) → IsDraft d → Keeps (with_added_prop d above p)
 keeps-added_prop d (opened.Type t) p h = h
 keeps-added_prop d (opened.Offer o) p h = tt
 keeps-added_prop d opened.Nothing p h = tt
 
-keeps-prop : (d : Draft) (line : List ℕ) → IsDraft d → Keeps (with_prop d line)
+keeps-prop : (d : ScriptDraft) (line : List ℕ) → IsDraft d → Keeps (with_prop d line)
 unfolding with_prop
 keeps-prop d line h =
     keeps-placed (or_cause cause.Words (three_words line)) (not (is_some (type_line d.above))) cause.Place
-    (λ (said : List ℕ × List ℕ × List ℕ). prop_told said.0 said.1 said.2 >>= λ (p : PropStruct).
+    (λ (said : List ℕ × List ℕ × List ℕ). parse_prop said.0 said.1 said.2 >>= λ (p : PropStruct).
     with_added_prop d d.above p)
-    (λ (said : List ℕ × List ℕ × List ℕ). keeps-bind (prop_told said.0 said.1 said.2)
+    (λ (said : List ℕ × List ℕ × List ℕ). keeps-bind (parse_prop said.0 said.1 said.2)
     (λ (p : PropStruct). with_added_prop d d.above p) (λ (p : PropStruct). keeps-added_prop d d.above p h))
 
-keeps-added_property : (d : Draft) (above : Open) (p : Property) → IsDraft d → Keeps (with_added_property d above p)
+keeps-added_property : (d : ScriptDraft) (above : Open) (p : Property) → IsDraft d → Keeps (with_added_property d above p)
 keeps-added_property d (opened.Offer o) p h = h
 keeps-added_property d (opened.Type t) p h = tt
 keeps-added_property d opened.Nothing p h = tt
 
-keeps-value : (d : Draft) (line : List ℕ) → IsDraft d → Keeps (with_value d line)
+keeps-value : (d : ScriptDraft) (line : List ℕ) → IsDraft d → Keeps (with_value d line)
 unfolding with_value
 keeps-value d line h =
     keeps-placed (or_cause cause.Words (two_and_text line)) (not (is_some (offer_line d.above))) cause.Place
-    (λ (said : List ℕ × List ℕ × List ℕ). property_told said.0 said.1 said.2 >>= λ (p : Property).
+    (λ (said : List ℕ × List ℕ × List ℕ). parse_property said.0 said.1 said.2 >>= λ (p : Property).
     with_added_property d d.above p)
-    (λ (said : List ℕ × List ℕ × List ℕ). keeps-bind (property_told said.0 said.1 said.2)
+    (λ (said : List ℕ × List ℕ × List ℕ). keeps-bind (parse_property said.0 said.1 said.2)
     (λ (p : Property). with_added_property d d.above p) (λ (p : Property). keeps-added_property d d.above p h))
 
-keeps-dynamic : (d : Draft) (line : List ℕ) → IsDraft d → Keeps (with_dynamic d line)
+keeps-dynamic : (d : ScriptDraft) (line : List ℕ) → IsDraft d → Keeps (with_dynamic d line)
 unfolding with_dynamic
 keeps-dynamic d line h =
     keeps-placed (or_cause cause.Words (three_words line)) (not (is_some (offer_line d.above))) cause.Place
-    (λ (said : List ℕ × List ℕ × List ℕ). dynamic_told said.0 said.1 said.2 >>= λ (p : Property).
+    (λ (said : List ℕ × List ℕ × List ℕ). parse_dynamic said.0 said.1 said.2 >>= λ (p : Property).
     with_added_property d d.above p)
-    (λ (said : List ℕ × List ℕ × List ℕ). keeps-bind (dynamic_told said.0 said.1 said.2)
+    (λ (said : List ℕ × List ℕ × List ℕ). keeps-bind (parse_dynamic said.0 said.1 said.2)
     (λ (p : Property). with_added_property d d.above p) (λ (p : Property). keeps-added_property d d.above p h))
 
-keeps-part : (d : Draft) (k : Part) (line : List ℕ) → IsDraft d → Keeps (with_part d k line)
+keeps-part : (d : ScriptDraft) (k : DetailKeyword) (line : List ℕ) → IsDraft d → Keeps (with_part d k line)
 keeps-part d part.Prop line h = keeps-prop d line h
 keeps-part d part.With line h = keeps-value d line h
 keeps-part d part.Dynamic line h = keeps-dynamic d line h
 
 -- ---- lines
 
-abbrev KeepsStep : Step → Type 0
+abbrev KeepsStep : LineStep → Type 0
 KeepsStep (goes d) = IsDraft d
 KeepsStep (stops d refused) = IsDraft d
 
-keeps-step : (d : Draft) (n : ℕ) (told : Result Draft LineCause) → IsDraft d → Keeps told → KeepsStep (step d n told)
+keeps-step : (d : ScriptDraft) (n : ℕ) (content : Result ScriptDraft LineCause) → IsDraft d → Keeps content → KeepsStep (step d n content)
 keeps-step d n (Ok more) h k = k
 keeps-step d n (Err c) h k = h
 
-keeps-closed_with : (d : Draft) (above : Open) → IsDraft d
+keeps-closed_with : (d : ScriptDraft) (above : Open) → IsDraft d
     → IsDraft (closed_with (record d { above = opened.Nothing }) above)
 keeps-closed_with d opened.Nothing h = h
 keeps-closed_with d (opened.Type t) h = h
 keeps-closed_with d (opened.Offer o) h = h
 
-keeps-closed : (d : Draft) → IsDraft d → IsDraft (closed d)
+keeps-closed : (d : ScriptDraft) → IsDraft d → IsDraft (close_entry d)
 keeps-closed d h = keeps-closed_with d d.above h
 
-keeps-begin : (d : Draft) (n : ℕ) (k : Head) (line : List ℕ) → IsDraft d → KeepsStep (with_begin d n k line)
+keeps-begin : (d : ScriptDraft) (n : ℕ) (k : EntryHead) (line : List ℕ) → IsDraft d → KeepsStep (with_begin d n k line)
 unfolding with_begin
 keeps-begin d n k line h =
-    keeps-step (closed d) n _ (keeps-closed d h) (keeps-head (closed d) n k line (keeps-closed d h))
+    keeps-step (close_entry d) n _ (keeps-closed d h) (keeps-head (close_entry d) n k line (keeps-closed d h))
 
-keeps-alone : (d : Draft) (n : ℕ) (k : Part) (line : List ℕ) → IsDraft d → KeepsStep (with_alone d n k line)
+keeps-alone : (d : ScriptDraft) (n : ℕ) (k : DetailKeyword) (line : List ℕ) → IsDraft d → KeepsStep (with_alone d n k line)
 unfolding with_alone
 keeps-alone d n k line h =
-    keeps-step (closed d) n _ (keeps-closed d h) (keeps-part (closed d) k line (keeps-closed d h))
+    keeps-step (close_entry d) n _ (keeps-closed d h) (keeps-part (close_entry d) k line (keeps-closed d h))
 
-keeps-belonging : (d : Draft) (n : ℕ) (k : Part) (line : List ℕ) (above : Option ℕ) → IsDraft d
+keeps-belonging : (d : ScriptDraft) (n : ℕ) (k : DetailKeyword) (line : List ℕ) (above : Option ℕ) → IsDraft d
     → KeepsStep (with_belonging d n k line above)
 keeps-belonging d n k line (Some first) h = keeps-step d first _ h (keeps-part d k line h)
 keeps-belonging d n k line None h = keeps-alone d n k line h
 
-keeps-keyword : (d : Draft) (n : ℕ) (begin : Option (Keyword × List ℕ)) → IsDraft d → KeepsStep (with_keyword d n begin)
+keeps-keyword : (d : ScriptDraft) (n : ℕ) (begin : Option (Keyword × List ℕ)) → IsDraft d → KeepsStep (with_keyword d n begin)
 keeps-keyword d n None h = keeps-closed d h
 keeps-keyword d n (Some (Begins k, line)) h = keeps-begin d n k line h
 keeps-keyword d n (Some (Belongs k, line)) h = keeps-belonging d n k line (line_above d.above k) h
 
-keeps-line_case : (d : Draft) (n : ℕ) (skipped : Bool) (begin : Option (Keyword × List ℕ)) → IsDraft d
+keeps-line_case : (d : ScriptDraft) (n : ℕ) (skipped : Bool) (begin : Option (Keyword × List ℕ)) → IsDraft d
     → KeepsStep (if skipped then goes d else with_keyword d n begin)
 keeps-line_case d n true begin h = h
 keeps-line_case d n false begin h = keeps-keyword d n begin h
 
-keeps-line : (d : Draft) (n : ℕ) (line : List ℕ) → IsDraft d → KeepsStep (with_line d n line)
+keeps-line : (d : ScriptDraft) (n : ℕ) (line : List ℕ) → IsDraft d → KeepsStep (with_line d n line)
 unfolding with_line
 keeps-line d n line h = keeps-line_case d n (is_skipped line) (begin_of line) h
 
 -- ---- whole files
 
-names-finished : (d : Draft) (test : Bool) → names_in (finished_at test d).finished ≡ names_of test d.finished d.name
+names-finished : (d : ScriptDraft) (test : Bool) → names_in (finished_at test d).finished ≡ names_of test d.finished d.name
 names-finished d true = names-push d.finished (last_trader d)
 names-finished d false = refl
 
-short-finished : (d : Draft) (test : Bool) → IsDraft d → AreShort (finished_at test d).finished
+short-finished : (d : ScriptDraft) (test : Bool) → IsDraft d → AreShort (finished_at test d).finished
 short-finished d true h = short-push d.finished (last_trader d) h.others h.last
 short-finished d false h = h.others
 
@@ -550,7 +550,7 @@ seed-or_zeros : (seed : Option (List ℕ)) → IfSome seed IsSeed → length (se
 seed-or_zeros (Some seed) h = h
 seed-or_zeros None h = refl
 
-sound-script : (d : Draft) (refused : Option Refused) → IsDraft d → IsSound (script d refused)
+sound-script : (d : ScriptDraft) (refused : Option Refused) → IsDraft d → IsValidScript (script d refused)
 sound-script d refused h = record {
   host = h.host;
   short = h.short;
@@ -560,24 +560,24 @@ sound-script d refused h = record {
   names = short-finished d (has_trader d) h;
 }
 
-sound-whole_case : (d : Draft) (test : Bool) (refused : Refused) → IsDraft d
-    → IsSound (if test then script d None else script d (Some refused))
+sound-whole_case : (d : ScriptDraft) (test : Bool) (refused : Refused) → IsDraft d
+    → IsValidScript (if test then script d None else script d (Some refused))
 sound-whole_case d true refused h = sound-script d None h
 sound-whole_case d false refused h = sound-script d (Some refused) h
 
-sound-ended : (d : Draft) → IsDraft d → IsSound (ended d)
-sound-ended d h = sound-whole_case (closed d) (is_some (closed d).home) _ (keeps-closed d h)
+sound-ended : (d : ScriptDraft) → IsDraft d → IsValidScript (script_of_draft d)
+sound-ended d h = sound-whole_case (close_entry d) (is_some (close_entry d).home) _ (keeps-closed d h)
 
-sound-on : (s : Step) (f : Draft → Script) → KeepsStep s → ((d : Draft) → IsDraft d → IsSound (f d))
-    → IsSound (go_on s f)
+sound-on : (s : LineStep) (f : ScriptDraft → Script) → KeepsStep s → ((d : ScriptDraft) → IsDraft d → IsValidScript (f d))
+    → IsValidScript (go_on s f)
 sound-on (goes d) f h more = more d h
 sound-on (stops d refused) f h more = sound-script d (Some refused) h
 
-sound-rest : (n : ℕ) (d : Draft) (all : List (List ℕ)) → IsDraft d → IsSound (rest_of_file n d all)
+sound-rest : (n : ℕ) (d : ScriptDraft) (all : List (List ℕ)) → IsDraft d → IsValidScript (rest_of_file n d all)
 sound-rest n d [] h = sound-ended d h
 sound-rest n d (line ∷ rest) h =
-    sound-on (with_line d (n + 1) line) (λ (more : Draft). rest_of_file (n + 1) more rest) (keeps-line d (n + 1) line h)
-    (λ (more : Draft) k. sound-rest (n + 1) more rest k)
+    sound-on (with_line d (n + 1) line) (λ (more : ScriptDraft). rest_of_file (n + 1) more rest) (keeps-line d (n + 1) line h)
+    (λ (more : ScriptDraft) k. sound-rest (n + 1) more rest k)
 
 nothing-said : IsDraft nothing_yet
 unfolding IsDistinct
@@ -592,6 +592,6 @@ nothing-said = record {
   others = tt;
 }
 
-pub sound : (text : List ℕ) → IsSound (script_of text)
+pub sound : (text : List ℕ) → IsValidScript (script_of text)
 unfolding script_of
 sound text = sound-rest 0 nothing_yet (lines text) nothing-said

@@ -20,31 +20,32 @@ use Rattle.td_cdr.specs.Truth.{order_of}
 use Rattle.td_cdr.specs.Writing.{written_number}
 use Rattle.td_cdr.specs.declared.order.Order.{Order}
 use Rattle.td_cdr.specs.declared.value_fault.ValueFault.{ValueFault}
-use Rattle.td_codes.specs.Codes.{code_formats, codes, kind_of, member as member_format, parameters}
-use Rattle.td_codes.specs.Kinds.{kind_at}
-use Rattle.td_codes.specs.Labels.{Layer, label_of, label_piece}
-use Rattle.td_codes.specs.Layers.{code-any, code-code, code-null, code-object, code-struct, value-items, value-str}
-use Rattle.td_codes.specs.Layers.{code-boolean, code-char, code-long, code-longlong, code-octet, code-sequence, code-short}
-use Rattle.td_codes.specs.Layers.{code-str, code-ulong, code-ulonglong, code-ushort}
-use Rattle.td_codes.specs.References.{reference}
+use Rattle.td_typecode.specs.Codes.{code_formats, codes, kind_of, member as member_format, parameters}
+use Rattle.td_typecode.specs.Kinds.{kind_at}
+use Rattle.td_typecode.specs.Labels.{Layer, label_of, label_piece}
+use Rattle.td_typecode.specs.Layers.{code-any, code-code, code-null, code-object, code-struct, value-items, value-str}
+use Rattle.td_typecode.specs.Layers.{code-boolean, code-char, code-long, code-longlong, code-octet, code-sequence}
+use Rattle.td_typecode.specs.Layers.{code-short}
+use Rattle.td_typecode.specs.Layers.{code-str, code-ulong, code-ulonglong, code-ushort}
+use Rattle.td_typecode.specs.References.{reference}
 use Rattle.tc_graph.specs.declared.node.Node.{Node}
-use Rattle.td_codes.specs.Outermost.{outer, type_code}
-use Rattle.td_codes.specs.Values.{any_value, anys, left, graph_values, code_values, layer, values}
-use Rattle.td_codes.specs.WritingCodes.{kind_of_layer}
-use Rattle.td_codes.specs.declared.code.Any.{Any}
-use Rattle.td_codes.specs.declared.code.Member.{Member}
-use Rattle.td_codes.specs.declared.code.TypeCode.{TypeCode, out-TypeCode}
-use Rattle.td_codes.specs.declared.code.TypeCode.TheOpen as c
-use Rattle.td_codes.specs.declared.code.TypeCode.TheVariants as code
-use Rattle.td_codes.specs.declared.code.Value.{Value}
-use Rattle.td_codes.specs.declared.code.Value.TheVariants as value
-use Rattle.td_codes.specs.declared.kinds.CodeKind.{CodeKind}
-use Rattle.td_codes.specs.declared.kinds.CodeKind.TheVariants as kind
-use Rattle.td_codes.specs.declared.label.Label.{Label}
-use Rattle.td_codes.specs.declared.label.Label.TheVariants.{One, Two, Four, Eight}
-use Rattle.td_codes.specs.declared.mode.Mode.{Mode}
-use Rattle.td_codes.specs.declared.mode.Mode.TheVariants.{Outer, Inner, Switch}
-use Rattle.td_codes.specs.declared.reference.Ior.{Ior}
+use Rattle.td_typecode.specs.Outermost.{outer, type_code}
+use Rattle.td_typecode.specs.Values.{any_value, anys, left, graph_values, code_values, layer, values}
+use Rattle.td_typecode.specs.WritingCodes.{kind_of_layer}
+use Rattle.td_typecode.specs.declared.code.Any.{Any}
+use Rattle.td_typecode.specs.declared.code.Member.{Member}
+use Rattle.td_typecode.specs.declared.code.TypeCode.{TypeCode, out-TypeCode}
+use Rattle.td_typecode.specs.declared.code.TypeCode.TheOpen as c
+use Rattle.td_typecode.specs.declared.code.TypeCode.TheVariants as code
+use Rattle.td_typecode.specs.declared.code.Value.{Value}
+use Rattle.td_typecode.specs.declared.code.Value.TheVariants as value
+use Rattle.td_typecode.specs.declared.kinds.CodeKind.{CodeKind}
+use Rattle.td_typecode.specs.declared.kinds.CodeKind.TheVariants as kind
+use Rattle.td_typecode.specs.declared.label.Label.{Label}
+use Rattle.td_typecode.specs.declared.label.Label.TheVariants.{One, Two, Four, Eight}
+use Rattle.td_typecode.specs.declared.mode.Mode.{Mode}
+use Rattle.td_typecode.specs.declared.mode.Mode.TheVariants.{Outer, Inner, Switch}
+use Rattle.td_typecode.specs.declared.reference.Ior.{Ior}
 use Rattle.td_forms.specs.Items.{item_code}
 use Rattle.td_forms.specs.Numbers.{minus, negative, positive, signed_below}
 use Rattle.td_forms.specs.Types.{code_of}
@@ -61,7 +62,7 @@ use Rattle.td_ior.specs.Keys.{◌>>=◌}
 use Rattle.td_ior.specs.Number.{number_below}
 use Rattle.td_ior.specs.Texts.{IsReferenceText, reference_in}
 use Rattle.td_lines.specs.Properties.{dynamic_any, dynamic_code, evaluator_code, member, null_any, plain_any}
-use Rattle.td_lines.specs.Told.{IsToldValue}
+use Rattle.td_lines.specs.Parsing.{IsParsedValue}
 use Rattle.td_value.specs.Dynamic.{dynamic_id}
 
 -- ---- lists
@@ -152,9 +153,9 @@ coded-at : (levels : ℕ) (t : ValueType) → (codes (suc (suc levels)) Outer).f
 coded-at levels (Plain i) = item-coded (suc levels) Outer i (inl refl)
 coded-at levels (Sequence i) = sequence-coded levels i
 
-pub code-told : (t : ValueType) → type_code.format.admits (code_of t)
+pub code-content : (t : ValueType) → type_code.format.admits (code_of t)
 unfolding type_code
-code-told t = inl (coded-at 14 t)
+code-content t = inl (coded-at 14 t)
 
 -- ---- single values
 
@@ -239,48 +240,48 @@ module _ (any : Sound ValueFault Any) (inside : Sound ValueFault TypeCode)
       (text, (let same : value.Str text ≡ v = cc in same), (refl, is))
 
   -- a byte is below 256
-  char-told : (text : List ℕ) (v : Value) → AllByRecursion (λ b. b < 256) text → item_value item.Char text ≡ Some v
+  char-content : (text : List ℕ) (v : Value) → AllByRecursion (λ b. b < 256) text → item_value item.Char text ≡ Some v
       → (values any inside graphs (suc n) code.Char).format.admits v
   unfolding item_value
-  char-told [] v bytes e = absurd (let bad : ⊥ = cc in bad)
-  char-told (b ∷ []) v bytes e =
+  char-content [] v bytes e = absurd (let bad : ⊥ = cc in bad)
+  char-content (b ∷ []) v bytes e =
       valued code.Char c.TypeCode::Char v code-char (b, (let same : value.Char b ≡ v = cc in same), bytes.0)
-  char-told (a ∷ b ∷ others) v bytes e = absurd (let bad : ⊥ = cc in bad)
+  char-content (a ∷ b ∷ others) v bytes e = absurd (let bad : ⊥ = cc in bad)
 
-  pub item-told : (i : ItemType) (text : List ℕ) (v : Value) → AllByRecursion (λ b. b < 256) text
+  pub item-content : (i : ItemType) (text : List ℕ) (v : Value) → AllByRecursion (λ b. b < 256) text
       → item_value i text ≡ Some v → (values any inside graphs (suc n) (item_code i)).format.admits v
   unfolding item_value
-  item-told item.Short text v bytes e =
+  item-content item.Short text v bytes e =
       let m = from-map value.Short (signed_below 32768 text) v e in
       valued code.Short c.TypeCode::Short v code-short (m.0, m.2, fits-16 m.0 (signed-within 32768 text m.0 m.1))
-  item-told item.Long text v bytes e =
+  item-content item.Long text v bytes e =
       let m = from-map value.Long (signed_below 2147483648 text) v e in
       valued code.Long c.TypeCode::Long v code-long (m.0, m.2, fits-32 m.0 (signed-within 2147483648 text m.0 m.1))
-  item-told item.LongLong text v bytes e =
+  item-content item.LongLong text v bytes e =
       let m = from-map value.LongLong (signed_below 9223372036854775808 text) v e in
       valued code.LongLong c.TypeCode::LongLong v code-longlong
       (m.0, m.2, fits-64 m.0 (signed-within 9223372036854775808 text m.0 m.1))
-  item-told item.UShort text v bytes e =
+  item-content item.UShort text v bytes e =
       let m = from-map value.UShort (number_below 65536 text) v e in
       let low = (below-parts 65536 text m.0 m.1).below in
       valued code.UShort c.TypeCode::UShort v code-ushort (m.0, m.2, omega (arith, low))
-  item-told item.ULong text v bytes e =
+  item-content item.ULong text v bytes e =
       let m = from-map value.ULong (number_below 4294967296 text) v e in
       let low = (below-parts 4294967296 text m.0 m.1).below in
       valued code.ULong c.TypeCode::ULong v code-ulong (m.0, m.2, omega (arith, low))
-  item-told item.ULongLong text v bytes e =
+  item-content item.ULongLong text v bytes e =
       let m = from-map value.ULongLong (number_below 18446744073709551616 text) v e in
       let low = (below-parts 18446744073709551616 text m.0 m.1).below in
       valued code.ULongLong c.TypeCode::ULongLong v code-ulonglong (m.0, m.2, omega (arith, low))
-  item-told item.Octet text v bytes e =
+  item-content item.Octet text v bytes e =
       let m = from-map value.Octet (number_below 256 text) v e in
       let low = (below-parts 256 text m.0 m.1).below in
       valued code.Octet c.TypeCode::Octet v code-octet (m.0, m.2, omega (arith, low))
-  item-told item.Char text v bytes e = char-told text v bytes e
-  item-told item.Boolean text v bytes e =
+  item-content item.Char text v bytes e = char-content text v bytes e
+  item-content item.Boolean text v bytes e =
       let m = from-map value.Boolean (truth_named text) v e in
       valued code.Boolean c.TypeCode::Boolean v code-boolean (m.0, m.2, tt)
-  item-told item.Str text v bytes e = string-when (has_nul text) text v refl e
+  item-content item.Str text v bytes e = string-when (has_nul text) text v refl e
 
 -- ---- sequences of them
 
@@ -368,15 +369,15 @@ module _ (any : Sound ValueFault Any) (inside : Sound ValueFault TypeCode)
   abbrev one : ItemType → Sound ValueFault Value
   one i = values any inside graphs (suc n) (item_code i)
 
-  items-told : (i : ItemType) (texts : List (List ℕ)) (vs : List Value) → AllByRecursion AreBytes texts
+  items-content : (i : ItemType) (texts : List (List ℕ)) (vs : List Value) → AllByRecursion AreBytes texts
       → all_values i texts ≡ Some vs → AllByRecursion (one i).format.admits vs
-  items-told i [] vs bytes e = subst (AllByRecursion (one i).format.admits) (some-is [] vs e) tt
-  items-told i (x ∷ texts) vs bytes e =
+  items-content i [] vs bytes e = subst (AllByRecursion (one i).format.admits) (some-is [] vs e) tt
+  items-content i (x ∷ texts) vs bytes e =
       let first =
       bind-Some (item_value i x) (λ (v : Value). all_values i texts >>= λ (ws : List Value). Some (v ∷ ws)) vs e in
       let rest = bind-Some (all_values i texts) (λ (ws : List Value). Some (first.0 ∷ ws)) vs first.2 in
       subst (AllByRecursion (one i).format.admits) (some-is (first.0 ∷ rest.0) vs rest.2)
-      (item-told any inside graphs n i x first.0 bytes.0 first.1, items-told i texts rest.0 bytes.1 rest.1)
+      (item-content any inside graphs n i x first.0 bytes.0 first.1, items-content i texts rest.0 bytes.1 rest.1)
 
   items-long : (i : ItemType) (texts : List (List ℕ)) (vs : List Value) → all_values i texts ≡ Some vs
       → (order : Order) (place : ℕ) → length vs ≤ length (row (map (one i).format.writes vs) order place)
@@ -397,16 +398,16 @@ module _ (any : Sound ValueFault Any) (inside : Sound ValueFault TypeCode)
 module _ (any : Sound ValueFault Any) (inside : Sound ValueFault TypeCode)
     (graphs : List Node → Sound ValueFault Value) (n : ℕ) (i : ItemType)
     (texts : List (List ℕ)) (vs : List Value) (e : all_values i texts ≡ Some vs) where
-  sequence-told : AllByRecursion AreBytes texts → length vs < 2 ^ 32
+  sequence-content : AllByRecursion AreBytes texts → length vs < 2 ^ 32
       → (values any inside graphs (suc (suc n)) (code.Sequence (item_code i) 0)).format.admits (value.Items vs)
-  sequence-told bytes low =
+  sequence-content bytes low =
       valued any inside graphs (suc n) (code.Sequence (item_code i) 0) (c.Sequence (item_code i) 0) (value.Items vs)
       (code-sequence (item_code i) 0) (
         vs,
         refl,
         (
           (refl, low),
-          (sequence-from (one any inside graphs n i) vs low (items-told any inside graphs n i texts vs bytes e)).1,
+          (sequence-from (one any inside graphs n i) vs low (items-content any inside graphs n i texts vs bytes e)).1,
         ),
       )
 
@@ -423,11 +424,11 @@ module _ (any : Sound ValueFault Any) (inside : Sound ValueFault TypeCode)
 
 -- ---- anys
 
-any-told : (t : TypeCode) (v : Value) → type_code.format.admits t
+any-content : (t : TypeCode) (v : Value) → type_code.format.admits t
     → (code_values 15 16 t).format.admits v
     → any_value.format.admits (record { code = t; value = v })
 unfolding left type_code
-any-told t v h k = (h, k)
+any-content t v h k = (h, k)
 
 any-long : (t : TypeCode) (v : Value) (least : ℕ)
     → ((order : Order) (place : ℕ)
@@ -438,27 +439,27 @@ any-long t v least h order place =
     then-second (type_code.format.writes t) ((code_values 15 16 t).format.writes v) order place least
     (h order)
 
-pub plain-told : (t : ValueType) (text : List ℕ) (v : Value) → AreBytes text → value_of t text ≡ Some v
-    → IsToldValue (plain_any t v)
-plain-told (Plain i) text v bytes e = record {
+pub plain-content : (t : ValueType) (text : List ℕ) (v : Value) → AreBytes text → value_of t text ≡ Some v
+    → IsParsedValue (plain_any t v)
+plain-content (Plain i) text v bytes e = record {
   items = 0;
   long = λ order place. omega arith;
   admitted = λ _.
-      any-told (item_code i) v (code-told (Plain i))
-      (item-told (anys 15) (outer 15) (graph_values 15) 15 i text v bytes e);
+      any-content (item_code i) v (code-content (Plain i))
+      (item-content (anys 15) (outer 15) (graph_values 15) 15 i text v bytes e);
 }
-plain-told (Sequence i) text v bytes e =
+plain-content (Sequence i) text v bytes e =
     let m = from-map value.Items (items_of i text) v e in
     let t : TypeCode = code.Sequence (item_code i) 0 in
-    subst (λ (x : Value). IsToldValue (plain_any (Sequence i) x)) m.2
+    subst (λ (x : Value). IsParsedValue (plain_any (Sequence i) x)) m.2
     (record {
       items = length m.0;
       long =
           any-long t (value.Items m.0) (length m.0)
           (sequence-long (anys 15) (outer 15) (graph_values 15) 14 i (texts_of text) m.0 m.1);
       admitted = λ low.
-          any-told t (value.Items m.0) (code-told (Sequence i))
-          (sequence-told (anys 15) (outer 15) (graph_values 15) 14 i (texts_of text) m.0 m.1 (texts-bytes text bytes) low);
+          any-content t (value.Items m.0) (code-content (Sequence i))
+          (sequence-content (anys 15) (outer 15) (graph_values 15) 14 i (texts_of text) m.0 m.1 (texts-bytes text bytes) low);
     })
 
 -- ---- dynamic properties
@@ -496,16 +497,16 @@ dynamic-coded =
       ),
     ))
 
-null-told : (anys 15).format.admits null_any
+null-content : (anys 15).format.admits null_any
 unfolding left
-null-told = (
+null-content = (
   inl (coded 14 Outer code.Null kind.Null (ap kind_of_layer code-null) (refl, omega arith) refl),
   valued (anys 14) (outer 14) (graph_values 14) 14 code.Null c.Null value.Empty code-null refl,
 )
 
-pub dynamic-told : (evaluator : Ior) (t : ValueType) → reference.format.admits evaluator
-    → IsToldValue (dynamic_any evaluator (code_of t))
-dynamic-told evaluator t h =
+pub dynamic-content : (evaluator : Ior) (t : ValueType) → reference.format.admits evaluator
+    → IsParsedValue (dynamic_any evaluator (code_of t))
+dynamic-content evaluator t h =
     let a = anys 15 in
     let k = outer 15 in
     let g = graph_values 15 in
@@ -515,13 +516,13 @@ dynamic-told evaluator t h =
     valued a k g 14 evaluator_code (c.TypeCode::ObjRef id name) (value.ObjRef evaluator) (code-object id name)
     (evaluator, refl, h) in
     let two = valued a k g 14 code.Code c.TypeCode::Code (value.Code (code_of t)) code-code (code_of t, refl, inl (coded-at 13 t)) in
-    let three = valued a k g 14 code.AnyCode c.AnyCode (value.AnyValue null_any) code-any (null_any, refl, null-told) in
+    let three = valued a k g 14 code.AnyCode c.AnyCode (value.AnyValue null_any) code-any (null_any, refl, null-content) in
     let vs : List Value = value.ObjRef evaluator ∷ value.Code (code_of t) ∷ value.AnyValue null_any ∷ [] in
     record {
       items = 0;
       long = λ order place. omega arith;
       admitted = λ _.
-          any-told dynamic_code (value.Struct vs) dynamic-coded
+          any-content dynamic_code (value.Struct vs) dynamic-coded
           (valued a k g 15 dynamic_code (c.TypeCode::Struct dynamic_id (letters "DynamicProp") dynamic_members)
           (value.Struct vs) (code-struct dynamic_id (letters "DynamicProp") dynamic_members) (
             vs,
@@ -542,5 +543,5 @@ text-admitted word r (IsReferenceText.hex s) =
 text-admitted word r (IsReferenceText.plain s) =
     subst reference.format.admits (sym s.made) (made-admitted s.id s.host s.key s.port 0 s.id_plain)
 
-pub reference-told : (word : List ℕ) (r : Ior) → reference_in word ≡ Some r → reference.format.admits r
-reference-told word r e = text-admitted word r (texts-agree.found word r e)
+pub reference-content : (word : List ℕ) (r : Ior) → reference_in word ≡ Some r → reference.format.admits r
+reference-content word r e = text-admitted word r (texts-agree.found word r e)

@@ -11,10 +11,10 @@ or_cause cause None = Err cause
 
 -- refused for this cause where the test holds
 abbrev pub refused_if : {A : Type 0} → Bool → LineCause → Result A LineCause → Result A LineCause
-refused_if test cause told = if test then Err cause else told
+refused_if test cause content = if test then Err cause else content
 
 -- what a reader of words answers
-abbrev pub Gives : {A : Type 0} → Result A LineCause → Result A Misfit → Type 0
-Gives told (Ok x) = told ≡ Ok x
-Gives told (Err (Is cause)) = told ≡ Err cause
-Gives told (Err Memory) = Unit {0}
+abbrev pub ParsesLine : {A : Type 0} → Result A LineCause → Result A Misfit → Type 0
+ParsesLine content (Ok x) = content ≡ Ok x
+ParsesLine content (Err (Is cause)) = content ≡ Err cause
+ParsesLine content (Err Memory) = Unit {0}

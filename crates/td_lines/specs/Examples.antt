@@ -21,14 +21,14 @@ abbrev pub comment_alone : List ℕ
 comment_alone = file (codes "# one" ∷ [] ∷ [])
 
 -- an address with a version, and a version behind a trader
-abbrev pub versioned : List ℕ
-versioned = file (codes "address h 9" ∷ codes "iiop 1" ∷ codes "trader A" ∷ [])
+abbrev pub two_versions : List ℕ
+two_versions = file (codes "address h 9" ∷ codes "iiop 1" ∷ codes "trader A" ∷ [])
 
 abbrev pub late_version : List ℕ
 late_version = file (codes "address h 9" ∷ codes "trader A" ∷ codes "iiop 1" ∷ [])
 
 -- a trader with a link to one that isn't there yet, and an attribute that is set, without a last line feed
-abbrev pub linked : List ℕ
-linked =
+abbrev pub dangling_link : List ℕ
+dangling_link =
     file (codes "address h 9" ∷ codes "trader A" ∷ codes "link l B local_only always" ∷ [])
     ++ codes "set max_list 7"

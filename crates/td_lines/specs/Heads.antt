@@ -12,38 +12,38 @@ use Rattle.td_ior.specs.Number.{number_below}
 use Rattle.td_ops.specs.declared.call.Change.TheVariants as change
 use Rattle.td_lines.specs.Causes.{or_cause, refused_if}
 use Rattle.td_lines.specs.Drafts.{has_trader, with_entry}
-use Rattle.td_lines.specs.Homes.{home_told, with_minor}
-use Rattle.td_lines.specs.Octets.{octets_told, seed_told}
-use Rattle.td_lines.specs.Settings.{setting_told}
+use Rattle.td_lines.specs.Homes.{parse_home, with_minor}
+use Rattle.td_lines.specs.Octets.{parse_octets, parse_seed}
+use Rattle.td_lines.specs.Settings.{parse_setting}
 use Rattle.td_lines.specs.Words.{cut_word, one_word, two_words, words}
 use Rattle.td_lines.specs.declared.cause.LineCause.{LineCause}
 use Rattle.td_lines.specs.declared.cause.LineCause.TheVariants as cause
-use Rattle.td_lines.specs.declared.draft.Draft.{Draft}
-use Rattle.td_lines.specs.declared.entry.Entry.TheVariants as entry
+use Rattle.td_lines.specs.declared.draft.ScriptDraft.{ScriptDraft}
+use Rattle.td_lines.specs.declared.entry.FileEntry.TheVariants as entry
 use Rattle.td_lines.specs.declared.entry.TraderScript.{TraderScript}
 
 -- `address HOST PORT`, once; no other line may stand above it
-unfoldable pub with_address : Draft → List ℕ → Result Draft LineCause
+unfoldable pub with_address : ScriptDraft → List ℕ → Result ScriptDraft LineCause
 with_address d line = do
   said ← or_cause cause.Words (two_words line)
   refused_if (is_some d.home) cause.Twice
-      (home_told said.0 said.1 >>= λ home. Ok (record d { home = Some home }))
+      (parse_home said.0 said.1 >>= λ home. Ok (record d { home = Some home }))
 
 -- `seed HEX`, once, behind the address and before the line `iiop` and the first trader
-unfoldable pub with_seed : Draft → List ℕ → Result Draft LineCause
+unfoldable pub with_seed : ScriptDraft → List ℕ → Result ScriptDraft LineCause
 with_seed d line = do
   said ← or_cause cause.Words (one_word line)
   refused_if (not (is_some d.home) || has_trader d || d.iiop) cause.Place
       (refused_if (is_some d.seed) cause.Twice
-      (seed_told said >>= λ seed. Ok (record d { seed = Some seed })))
+      (parse_seed said >>= λ seed. Ok (record d { seed = Some seed })))
 
 -- the server's references have this minor version
-abbrev pub with_version : Draft → ℕ → Draft
+abbrev pub with_version : ScriptDraft → ℕ → ScriptDraft
 with_version d minor = record d { home = option_map (with_minor minor) d.home; iiop = true }
 
 -- `iiop MINOR`, once, behind the address and before the first trader: the minor version of IIOP in the server's
 -- references, 0 or 1
-unfoldable pub with_iiop : Draft → List ℕ → Result Draft LineCause
+unfoldable pub with_iiop : ScriptDraft → List ℕ → Result ScriptDraft LineCause
 with_iiop d line = do
   said ← or_cause cause.Words (one_word line)
   refused_if (not (is_some d.home) || has_trader d) cause.Place
@@ -51,12 +51,12 @@ with_iiop d line = do
       (or_cause cause.Number (number_below 2 said) >>= λ minor. Ok (with_version d minor)))
 
 -- what was said of the last trader
-abbrev pub last_trader : Draft → TraderScript
+abbrev pub last_trader : ScriptDraft → TraderScript
 last_trader d = record { name = d.name; interfaces = d.interfaces; entries = d.entries }
 
 -- nothing more is said of the last trader, if there is one
-abbrev pub finished : Draft → Draft
-finished d =
+abbrev pub finish_trader : ScriptDraft → ScriptDraft
+finish_trader d =
     if has_trader d
     then record d {
       finished = d.finished ++ last_trader d ∷ [];
@@ -67,41 +67,41 @@ finished d =
     else d
 
 -- a trader, of whom nothing was said yet
-abbrev pub opened_trader : Draft → List ℕ → Draft
+abbrev pub opened_trader : ScriptDraft → List ℕ → ScriptDraft
 opened_trader d name = record d { names = d.names ++ name ∷ []; name = name; typed = false }
 
 -- `trader NAME`, at most 64, no two of one name
-unfoldable pub with_trader : Draft → List ℕ → Result Draft LineCause
+unfoldable pub with_trader : ScriptDraft → List ℕ → Result ScriptDraft LineCause
 with_trader d line = do
   said ← or_cause cause.Words (one_word line)
   refused_if (not (is_some d.home) || nat_le 64 (length d.names)) cause.Place
       (refused_if (not (trader_name said)) cause.Name
       (refused_if (list_any (bytes_eq said) d.names) cause.Twice
-      (Ok (opened_trader (finished d) said))))
+      (Ok (opened_trader (finish_trader d) said))))
 
 -- `stem HEX`
-unfoldable pub with_stem : Draft → ℕ → List ℕ → Result Draft LineCause
+unfoldable pub with_stem : ScriptDraft → ℕ → List ℕ → Result ScriptDraft LineCause
 with_stem d n line = do
   said ← or_cause cause.Words (one_word line)
   refused_if (not (has_trader d)) cause.Place
-      (octets_told said >>= λ stem.
+      (parse_octets said >>= λ stem.
       Ok (with_entry d n (entry.Change (change.SetRequestIdStem stem))))
 
 -- `set ATTRIBUTE VALUE`
-unfoldable pub with_set : Draft → ℕ → List ℕ → Result Draft LineCause
+unfoldable pub with_set : ScriptDraft → ℕ → List ℕ → Result ScriptDraft LineCause
 with_set d n line = do
   said ← or_cause cause.Words (two_words line)
   refused_if (not (has_trader d)) cause.Place
-      (setting_told said.0 said.1 >>= λ set. Ok (with_entry d n (entry.Change set)))
+      (parse_setting said.0 said.1 >>= λ set. Ok (with_entry d n (entry.Change set)))
 
 abbrev pub is_declared : List ℕ → List (List ℕ × List (List ℕ)) → Bool
 is_declared id interfaces = list_any (λ one. bytes_eq id one.0) interfaces
 
-abbrev pub with_declared : Draft → List ℕ → List (List ℕ) → Draft
+abbrev pub with_declared : ScriptDraft → List ℕ → List (List ℕ) → ScriptDraft
 with_declared d id bases = record d { interfaces = d.interfaces ++ (id, bases) ∷ [] }
 
 -- `interface ID BASE ..`, before the trader's first type, each ID once
-unfoldable pub with_interface : Draft → List ℕ → Result Draft LineCause
+unfoldable pub with_interface : ScriptDraft → List ℕ → Result ScriptDraft LineCause
 with_interface d line = do
   said ← or_cause cause.Words (cut_word line)
   refused_if (not (has_trader d) || d.typed) cause.Place

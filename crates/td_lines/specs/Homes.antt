@@ -16,7 +16,7 @@ abbrev pub is_no_host : List ℕ → Bool
 is_no_host host = nat_lt 1000 (length host) || has_nul host
 
 -- reached by IIOP 1.0, where no line says otherwise
-abbrev pub home_told : (host port : List ℕ) → Result Home LineCause
-home_told host port =
+abbrev pub parse_home : (host port : List ℕ) → Result Home LineCause
+parse_home host port =
     refused_if (is_no_host host) cause.Name
     (or_cause cause.Number (port_of port) >>= λ n. Ok (record { host = host; port = n; minor = 0 }))

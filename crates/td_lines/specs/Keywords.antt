@@ -3,14 +3,14 @@ use Rattle.std.specs.Prelude.{ℕ, List, [], ◌∷◌, codes, Option, Some}
 use Rattle.td_cdr.specs.Format.{value_named}
 use Rattle.td_ior.specs.Keys.{◌>>=◌}
 use Rattle.td_lines.specs.Words.{cut_word}
-use Rattle.td_lines.specs.declared.keyword.Head.{Head}
-use Rattle.td_lines.specs.declared.keyword.Head.TheVariants as head
-use Rattle.td_lines.specs.declared.keyword.Part.{Part}
-use Rattle.td_lines.specs.declared.keyword.Part.TheVariants as part
+use Rattle.td_lines.specs.declared.keyword.EntryHead.{EntryHead}
+use Rattle.td_lines.specs.declared.keyword.EntryHead.TheVariants as head
+use Rattle.td_lines.specs.declared.keyword.DetailKeyword.{DetailKeyword}
+use Rattle.td_lines.specs.declared.keyword.DetailKeyword.TheVariants as part
 use Rattle.td_lines.specs.declared.keyword.Keyword.{Keyword}
 use Rattle.td_lines.specs.declared.keyword.Keyword.TheVariants.{Begins, Belongs}
 
-abbrev pub head_name : Head → List ℕ
+abbrev pub head_name : EntryHead → List ℕ
 head_name head.Address = codes "address"
 head_name head.Seed = codes "seed"
 head_name head.Iiop = codes "iiop"
@@ -23,7 +23,7 @@ head_name head.Offer = codes "offer"
 head_name head.Proxy = codes "proxy"
 head_name head.Link = codes "link"
 
-abbrev pub part_name : Part → List ℕ
+abbrev pub part_name : DetailKeyword → List ℕ
 part_name part.Prop = codes "prop"
 part_name part.With = codes "with"
 part_name part.Dynamic = codes "dynamic"

@@ -10,9 +10,9 @@ use Rattle.td_lines.specs.declared.entry.TraderScript.{TraderScript}
 abbrev pub AreShort : List TraderScript → Type 0
 AreShort ts = AllByRecursion (λ (t : TraderScript). length t.name ≤ 32) ts
 
--- Its host has no NUL and 1,000 bytes at most, its version is 0 or 1, its seed 32 octets, and of its traders no two have one name, and none a
--- long one.
-pub record IsSound (s : Script) : Type 0 where
+-- Its host has no NUL and 1,000 bytes at most, its version is 0 or 1, its seed 32 octets, and of its traders no two
+-- have one name, and none a long one.
+pub record IsValidScript (s : Script) : Type 0 where
   pub host : IfSome s.home (λ home. HasNoNul home.host)
   pub short : IfSome s.home (λ home. length home.host ≤ 1000)
   pub minor : IfSome s.home (λ home. home.minor ≤ 1)

@@ -13,6 +13,6 @@ pub mod References
 pub mod Scripts
 pub mod Settings
 pub mod Steps
-pub mod Told
+pub mod Parsing
 pub mod Typed
 pub mod Words

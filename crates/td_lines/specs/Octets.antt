@@ -6,9 +6,9 @@ use Rattle.td_lines.specs.Causes.{or_cause, refused_if}
 use Rattle.td_lines.specs.declared.cause.LineCause.{LineCause}
 use Rattle.td_lines.specs.declared.cause.LineCause.TheVariants.{Value}
 
-abbrev pub octets_told : List ℕ → Result (List ℕ) LineCause
-octets_told digits = or_cause Value (result_ok (decode_of digits))
+abbrev pub parse_octets : List ℕ → Result (List ℕ) LineCause
+parse_octets digits = or_cause Value (result_ok (decode_of digits))
 
 -- 64 digits
-abbrev pub seed_told : List ℕ → Result (List ℕ) LineCause
-seed_told digits = refused_if (not (nat_eq (length digits) 64)) Value (octets_told digits)
+abbrev pub parse_seed : List ℕ → Result (List ℕ) LineCause
+parse_seed digits = refused_if (not (nat_eq (length digits) 64)) Value (parse_octets digits)

@@ -1,13 +1,13 @@
 -- Properties of types and of offers.
 use Rattle.std.specs.Prelude.{ℕ, List, [], ◌∷◌, codes, Result, Ok}
 use Rattle.td_cdr.specs.Reading.{◌>>=◌}
-use Rattle.td_codes.specs.declared.code.Any.{Any}
-use Rattle.td_codes.specs.declared.code.Member.{Member}
-use Rattle.td_codes.specs.declared.code.TypeCode.{TypeCode}
-use Rattle.td_codes.specs.declared.code.TypeCode.TheVariants as code
-use Rattle.td_codes.specs.declared.code.Value.{Value}
-use Rattle.td_codes.specs.declared.code.Value.TheVariants as value
-use Rattle.td_codes.specs.declared.reference.Ior.{Ior}
+use Rattle.td_typecode.specs.declared.code.Any.{Any}
+use Rattle.td_typecode.specs.declared.code.Member.{Member}
+use Rattle.td_typecode.specs.declared.code.TypeCode.{TypeCode}
+use Rattle.td_typecode.specs.declared.code.TypeCode.TheVariants as code
+use Rattle.td_typecode.specs.declared.code.Value.{Value}
+use Rattle.td_typecode.specs.declared.code.Value.TheVariants as value
+use Rattle.td_typecode.specs.declared.reference.Ior.{Ior}
 use Rattle.td_forms.specs.Types.{code_of, value_type_of}
 use Rattle.td_forms.specs.Values.{value_of}
 use Rattle.td_forms.specs.Words.{mode_named}
@@ -17,7 +17,7 @@ use Rattle.td_value.specs.declared.enumerations.PropertyMode.{PropertyMode}
 use Rattle.td_value.specs.declared.structures.PropStruct.{PropStruct}
 use Rattle.td_value.specs.declared.structures.Property.{Property}
 use Rattle.td_lines.specs.Causes.{or_cause}
-use Rattle.td_lines.specs.References.{reference_told}
+use Rattle.td_lines.specs.References.{parse_reference}
 use Rattle.td_lines.specs.declared.cause.LineCause.{LineCause}
 use Rattle.td_lines.specs.declared.cause.LineCause.TheVariants as cause
 
@@ -29,27 +29,27 @@ prop_with mode value_type name = record {
 }
 
 -- MODE VALUETYPE NAME
-abbrev pub prop_told : (mode value_type name : List ℕ) → Result PropStruct LineCause
-prop_told mode value_type name = do
+abbrev pub parse_prop : (mode value_type name : List ℕ) → Result PropStruct LineCause
+parse_prop mode value_type name = do
   known ← or_cause cause.Name (mode_named mode)
   type ← or_cause cause.Name (value_type_of value_type)
   Ok (prop_with known type name)
 
-abbrev pub value_told : ValueType → List ℕ → Result Value LineCause
-value_told value_type text = or_cause cause.Value (value_of value_type text)
+abbrev pub parse_value : ValueType → List ℕ → Result Value LineCause
+parse_value value_type text = or_cause cause.Value (value_of value_type text)
 
 abbrev pub plain_any : ValueType → Value → Any
 plain_any value_type v = record { code = code_of value_type; value = v }
 
-abbrev pub named : List ℕ → Any → Property
-named name any = record { name = name; value = any }
+abbrev pub property_named_as : List ℕ → Any → Property
+property_named_as name any = record { name = name; value = any }
 
 -- VALUETYPE NAME VALUE
-abbrev pub property_told : (value_type name text : List ℕ) → Result Property LineCause
-property_told value_type name text = do
+abbrev pub parse_property : (value_type name text : List ℕ) → Result Property LineCause
+parse_property value_type name text = do
   type ← or_cause cause.Name (value_type_of value_type)
-  v ← value_told type text
-  Ok (named name (plain_any type v))
+  v ← parse_value type text
+  Ok (property_named_as name (plain_any type v))
 
 -- ---- dynamic properties
 
@@ -80,8 +80,8 @@ dynamic_any evaluator returned = record {
 }
 
 -- VALUETYPE NAME REF
-abbrev pub dynamic_told : (value_type name word : List ℕ) → Result Property LineCause
-dynamic_told value_type name word = do
+abbrev pub parse_dynamic : (value_type name word : List ℕ) → Result Property LineCause
+parse_dynamic value_type name word = do
   type ← or_cause cause.Name (value_type_of value_type)
-  evaluator ← reference_told word
-  Ok (named name (dynamic_any evaluator (code_of type)))
+  evaluator ← parse_reference word
+  Ok (property_named_as name (dynamic_any evaluator (code_of type)))

@@ -41,7 +41,7 @@ change_to (Number a) value = number_change a value
 change_to (Follow a) value = follow_change a value
 
 -- ATTRIBUTE VALUE
-abbrev pub setting_told : (attribute value : List ℕ) → Result Change LineCause
-setting_told attribute value = do
+abbrev pub parse_setting : (attribute value : List ℕ) → Result Change LineCause
+parse_setting attribute value = do
   known ← or_cause cause.Name (value_named setting_name settings attribute)
   or_cause cause.Value (change_to known value)

@@ -39,9 +39,9 @@ cut_word [] = None
 cut_word (b ∷ bytes) = if is_blank b then cut_word bytes else Some (cut_front (b ∷ bytes))
 
 -- a word and those behind it
-abbrev pub listed : Option (List ℕ × List ℕ) → List (List ℕ)
-listed None = []
-listed (Some cut) = cut.0 ∷ words cut.1
+abbrev pub word_list : Option (List ℕ × List ℕ) → List (List ℕ)
+word_list None = []
+word_list (Some cut) = cut.0 ∷ words cut.1
 
 -- ---- lines of so many words
 

@@ -39,14 +39,14 @@ pub enum LineCause {
 pub(crate) enum Misfit {
     /// It is refused.
     Is(LineCause),
-    /// Want of memory.
+    /// Out of memory.
     Memory,
 }
 
 impl From<Memory> for Misfit {
-    ghost use Rattle.td_lines.specs.declared.cause.Misfit.TheVariants.{Memory as WantOfMemory};
+    ghost use Rattle.td_lines.specs.declared.cause.Misfit.TheVariants.{Memory as MemoryFault};
 
-    ghost from_gives = { λ _ e. e ≡ WantOfMemory };
+    ghost from_gives = { λ _ e. e ≡ MemoryFault };
 
     fn from(_e: Memory) -> Misfit {
         Misfit::Memory

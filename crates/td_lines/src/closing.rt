@@ -1,18 +1,18 @@
 //! Entries to which no more line belongs.
 
 ghost use Rattle.std.specs.Prelude.{◌≡◌, [], IfOk, OnOk};
-ghost use Rattle.td_lines.specs.Drafts.{adding, closed, closed_with, exporting};
+ghost use Rattle.td_lines.specs.Drafts.{type_change, close_entry, closed_with, offer_change};
 
-use crate::draft::{Draft, Open, OpenOffer, OpenType};
-use crate::entry::Entry;
+use crate::draft::{Open, OpenOffer, OpenType, ScriptDraft};
+use crate::entry::FileEntry;
 use std::alloc::Global;
 use std::mem;
 use td_cdr::{List, Memory, share_owned_three};
 use td_ops::Change;
 
 /// The change that a type asks for.
-fn adding(one: OpenType) -> Change
-    ensures { result ≡ adding one }
+fn type_change(one: OpenType) -> Change
+    ensures { result ≡ type_change one }
 {
     Change::AddType {
         name: one.name,
@@ -23,8 +23,8 @@ fn adding(one: OpenType) -> Change
 }
 
 /// The change that an offer asks for.
-fn exporting(alloc: Global, offer: OpenOffer) -> Result<Change, Memory>
-    ensures { IfOk result (λ change. change ≡ exporting offer offer.proxy) }
+fn offer_change(alloc: Global, offer: OpenOffer) -> Result<Change, Memory>
+    ensures { IfOk result (λ change. change ≡ offer_change offer offer.proxy) }
 {
     let OpenOffer {
         line: _,
@@ -54,14 +54,14 @@ fn exporting(alloc: Global, offer: OpenOffer) -> Result<Change, Memory>
     }
 }
 
-impl Draft {
+impl ScriptDraft {
     /// Adds the entry above.
     ///
     /// # Errors
     ///
-    /// `Memory` for want of memory alone.
+    /// `Memory` only when out of memory.
     pub(crate) fn close(&mut self, alloc: Global) -> Result<(), Memory>
-        ensures { OnOk result (self.new ≡ closed self.old) }
+        ensures { OnOk result (self.new ≡ close_entry self.old) }
     {
         let above = mem::replace(&mut self.above, Open::Nothing);
         self.close_with(alloc, above)
@@ -72,11 +72,11 @@ impl Draft {
     {
         match above {
             Open::Nothing => Ok(()),
-            Open::Type(one) => self.put(one.line, Entry::Change(adding(one))),
+            Open::Type(one) => self.put(one.line, FileEntry::Change(type_change(one))),
             Open::Offer(one) => {
                 let line = one.line;
-                let change = exporting(alloc, one)?;
-                self.put(line, Entry::Change(change))
+                let change = offer_change(alloc, one)?;
+                self.put(line, FileEntry::Change(change))
             },
         }
     }

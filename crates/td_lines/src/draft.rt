@@ -4,8 +4,8 @@ ghost use Rattle.std.specs.Prelude.{◌≡◌, [], IfOk, OnOk};
 ghost use Rattle.td_lines.specs.Drafts.{has_trader, line_above, nothing_yet, offer_line};
 ghost use Rattle.td_lines.specs.Drafts.{type_line, with_entry};
 
-use crate::entry::{Entry, Home, Numbered, TraderScript};
-use crate::keyword::Part;
+use crate::entry::{FileEntry, Home, Numbered, TraderScript};
+use crate::keyword::DetailKeyword;
 use std::alloc::Global;
 use td_cdr::{List, Memory, Octets, Text};
 use td_value::{Ior, PropStruct, Property};
@@ -49,7 +49,7 @@ pub(crate) enum Open {
 
 /// What the lines so far say.
 #[derive(Drop)]
-pub(crate) struct Draft {
+pub(crate) struct ScriptDraft {
     pub(crate) home: Option<Home>,
     pub(crate) seed: Option<Octets>,
     /// A line told the version of the server's references.
@@ -69,12 +69,12 @@ pub(crate) struct Draft {
     pub(crate) above: Open,
 }
 
-impl Draft {
+impl ScriptDraft {
     /// What no line says.
-    pub(crate) fn new(alloc: Global) -> Draft
+    pub(crate) fn new(alloc: Global) -> ScriptDraft
         ensures { result ≡ nothing_yet }
     {
-        Draft {
+        ScriptDraft {
             home: None,
             seed: None,
             iiop: false,
@@ -96,7 +96,7 @@ impl Draft {
     }
 
     /// Adds an entry.
-    pub(crate) fn put(&mut self, line: u32, entry: Entry) -> Result<(), Memory>
+    pub(crate) fn put(&mut self, line: u32, entry: FileEntry) -> Result<(), Memory>
         ensures { OnOk result (self.new ≡ with_entry self.old line entry) }
     {
         self.entries.push(Numbered { line, entry })
@@ -125,13 +125,13 @@ impl Draft {
     }
 
     /// The first line of the entry to which a line belongs.
-    pub(crate) fn line_above(&self, part: Part) -> Option<u32>
+    pub(crate) fn line_above(&self, part: DetailKeyword) -> Option<u32>
         ensures { result ≡ line_above self.now.above part }
     {
         match part {
-            Part::Prop => self.type_line(),
-            Part::With => self.offer_line(),
-            Part::Dynamic => self.offer_line(),
+            DetailKeyword::Prop => self.type_line(),
+            DetailKeyword::With => self.offer_line(),
+            DetailKeyword::Dynamic => self.offer_line(),
         }
     }
 }

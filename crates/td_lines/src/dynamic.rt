@@ -1,15 +1,15 @@
 //! Dynamic properties of offers (OMG's Trading Object Service, module CosTradingDynamic).
 
 ghost use Rattle.std.specs.Prelude.{◌≡◌, [], ◌∷◌, ◌++◌, codes, IfOk, OnOk};
-ghost use Rattle.td_codes.specs.declared.code.TypeCode.TheVariants as code;
-ghost use Rattle.td_codes.specs.declared.code.Value.TheVariants as value;
-ghost use Rattle.td_lines.specs.Causes.{Gives};
+ghost use Rattle.td_typecode.specs.declared.code.TypeCode.TheVariants as code;
+ghost use Rattle.td_typecode.specs.declared.code.Value.TheVariants as value;
+ghost use Rattle.td_lines.specs.Causes.{ParsesLine};
 ghost use Rattle.td_forms.specs.Types.{code_of};
-ghost use Rattle.td_lines.specs.Properties.{dynamic_any, dynamic_code, dynamic_told, evaluator_code, member, null_any};
+ghost use Rattle.td_lines.specs.Properties.{dynamic_any, dynamic_code, parse_dynamic, evaluator_code, member, null_any};
 
 use crate::cause::{LineCause, Misfit};
-use crate::properties::named;
-use crate::references::reference_told;
+use crate::properties::property_named_as;
+use crate::references::parse_reference;
 use std::alloc::Global;
 use td_cdr::{Boxed, List, Memory, Text};
 use td_forms::{ValueType, code_of, value_type_of};
@@ -114,19 +114,19 @@ fn dynamic_any(alloc: Global, evaluator: Ior, value_type: ValueType) -> Result<A
 }
 
 /// The property of an offer that a `dynamic` line gives.
-pub(crate) fn dynamic_told(
+pub(crate) fn parse_dynamic(
     alloc: Global,
     value_type: &[u8],
     name: &[u8],
     word: &[u8],
 ) -> Result<Property, Misfit>
-    ensures { Gives (dynamic_told value_type.now name.now word.now) result }
+    ensures { ParsesLine (parse_dynamic value_type.now name.now word.now) result }
 {
     let Some(value_type) = value_type_of(value_type) else {
         return Err(Misfit::Is(LineCause::Name));
     };
-    let evaluator = reference_told(alloc, word)?;
+    let evaluator = parse_reference(alloc, word)?;
     let any = dynamic_any(alloc, evaluator, value_type)?;
-    let property = named(alloc, name, any)?;
+    let property = property_named_as(alloc, name, any)?;
     Ok(property)
 }

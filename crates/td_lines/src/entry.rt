@@ -16,7 +16,7 @@ pub struct Home {
 
 /// One thing that the file asks of a trader.
 #[derive(Drop)]
-pub enum Entry {
+pub enum FileEntry {
     /// A change of its store.
     Change(Change),
     /// A link to a trader of the file.
@@ -32,7 +32,7 @@ pub enum Entry {
 #[derive(Drop)]
 pub struct Numbered {
     pub line: u32,
-    pub entry: Entry,
+    pub entry: FileEntry,
 }
 
 /// The first line of an entry that is refused, and why.

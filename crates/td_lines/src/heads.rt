@@ -1,16 +1,16 @@
 //! Lines that begin an entry of one line.
 
 ghost use Rattle.std.specs.Prelude.{◌≡◌, OnOk};
-ghost use Rattle.td_lines.specs.Drafts.{Takes};
-ghost use Rattle.td_lines.specs.Heads.{finished, is_declared, opened_trader, with_address, with_interface};
+ghost use Rattle.td_lines.specs.Drafts.{UpdatesDraft};
+ghost use Rattle.td_lines.specs.Heads.{finish_trader, is_declared, opened_trader, with_address, with_interface};
 ghost use Rattle.td_lines.specs.Heads.{with_declared, with_iiop, with_seed, with_set, with_stem, with_trader, with_version};
 
 use crate::cause::{LineCause, Misfit};
-use crate::draft::Draft;
-use crate::entry::{Entry, TraderScript};
-use crate::hexadecimal::{octets_told, seed_told};
-use crate::home::{have_nul, home_told};
-use crate::setting::setting_told;
+use crate::draft::ScriptDraft;
+use crate::entry::{FileEntry, TraderScript};
+use crate::hexadecimal::{parse_octets, parse_seed};
+use crate::home::{have_nul, parse_home};
+use crate::setting::parse_setting;
 use crate::words::{cut_word, one_word, two_words, words_of};
 use std::alloc::Global;
 use std::mem;
@@ -18,11 +18,11 @@ use td_cdr::{List, Memory, Text, has_nul, is_trader_name};
 use td_ior::number_up_to;
 use td_ops::{Change, is_among};
 
-impl Draft {
+impl ScriptDraft {
     /// `address HOST PORT`
     #[tactic(auto, unfolding(crate::specs::Heads::with_address))]
     pub(crate) fn take_address(&mut self, alloc: Global, line: &[u8]) -> Result<(), Misfit>
-        ensures { Takes (with_address self.old line.now) self.old self.new result }
+        ensures { UpdatesDraft (with_address self.old line.now) self.old self.new result }
     {
         let Some((host, port)) = two_words(line) else {
             return Err(Misfit::Is(LineCause::Words));
@@ -30,7 +30,7 @@ impl Draft {
         if self.home.is_some() {
             return Err(Misfit::Is(LineCause::Twice));
         }
-        let home = home_told(alloc, host, port)?;
+        let home = parse_home(alloc, host, port)?;
         self.home = Some(home);
         Ok(())
     }
@@ -38,7 +38,7 @@ impl Draft {
     /// `seed HEX`
     #[tactic(auto, unfolding(crate::specs::Heads::with_seed))]
     pub(crate) fn take_seed(&mut self, alloc: Global, line: &[u8]) -> Result<(), Misfit>
-        ensures { Takes (with_seed self.old line.now) self.old self.new result }
+        ensures { UpdatesDraft (with_seed self.old line.now) self.old self.new result }
     {
         let Some(digits) = one_word(line) else {
             return Err(Misfit::Is(LineCause::Words));
@@ -49,7 +49,7 @@ impl Draft {
         if self.seed.is_some() {
             return Err(Misfit::Is(LineCause::Twice));
         }
-        let seed = seed_told(alloc, digits)?;
+        let seed = parse_seed(alloc, digits)?;
         self.seed = Some(seed);
         Ok(())
     }
@@ -57,7 +57,7 @@ impl Draft {
     /// `iiop MINOR`
     #[tactic(auto, unfolding(crate::specs::Heads::with_iiop))]
     pub(crate) fn take_iiop(&mut self, line: &[u8]) -> Result<(), Misfit>
-        ensures { Takes (with_iiop self.old line.now) self.old self.new result }
+        ensures { UpdatesDraft (with_iiop self.old line.now) self.old self.new result }
     {
         let Some(word) = one_word(line) else {
             return Err(Misfit::Is(LineCause::Words));
@@ -88,7 +88,7 @@ impl Draft {
     /// `trader NAME`
     #[tactic(auto, unfolding(crate::specs::Heads::with_trader))]
     pub(crate) fn take_trader(&mut self, alloc: Global, line: &[u8]) -> Result<(), Misfit>
-        ensures { Takes (with_trader self.old line.now) self.old self.new result }
+        ensures { UpdatesDraft (with_trader self.old line.now) self.old self.new result }
     {
         let Some(name) = one_word(line) else {
             return Err(Misfit::Is(LineCause::Words));
@@ -109,7 +109,7 @@ impl Draft {
 
     /// Puts the last trader, if there is one, behind those that are finished.
     pub(crate) fn finish(&mut self, alloc: Global) -> Result<(), Memory>
-        ensures { OnOk result (self.new ≡ finished self.old) }
+        ensures { OnOk result (self.new ≡ finish_trader self.old) }
     {
         if !self.has_trader() {
             return Ok(());
@@ -142,7 +142,7 @@ impl Draft {
         number: u32,
         line: &[u8],
     ) -> Result<(), Misfit>
-        ensures { Takes (with_stem self.old number line.now) self.old self.new result }
+        ensures { UpdatesDraft (with_stem self.old number line.now) self.old self.new result }
     {
         let Some(digits) = one_word(line) else {
             return Err(Misfit::Is(LineCause::Words));
@@ -150,15 +150,18 @@ impl Draft {
         if !self.has_trader() {
             return Err(Misfit::Is(LineCause::Place));
         }
-        let value = octets_told(alloc, digits)?;
-        self.put(number, Entry::Change(Change::SetRequestIdStem { value }))?;
+        let value = parse_octets(alloc, digits)?;
+        self.put(
+            number,
+            FileEntry::Change(Change::SetRequestIdStem { value }),
+        )?;
         Ok(())
     }
 
     /// `set ATTRIBUTE VALUE`
     #[tactic(auto, unfolding(crate::specs::Heads::with_set))]
     pub(crate) fn take_set(&mut self, number: u32, line: &[u8]) -> Result<(), Misfit>
-        ensures { Takes (with_set self.old number line.now) self.old self.new result }
+        ensures { UpdatesDraft (with_set self.old number line.now) self.old self.new result }
     {
         let Some((attribute, value)) = two_words(line) else {
             return Err(Misfit::Is(LineCause::Words));
@@ -166,15 +169,15 @@ impl Draft {
         if !self.has_trader() {
             return Err(Misfit::Is(LineCause::Place));
         }
-        let change = setting_told(attribute, value)?;
-        self.put(number, Entry::Change(change))?;
+        let change = parse_setting(attribute, value)?;
+        self.put(number, FileEntry::Change(change))?;
         Ok(())
     }
 
     /// `interface ID BASE ..`
     #[tactic(auto, unfolding(crate::specs::Heads::with_interface))]
     pub(crate) fn take_interface(&mut self, alloc: Global, line: &[u8]) -> Result<(), Misfit>
-        ensures { Takes (with_interface self.old line.now) self.old self.new result }
+        ensures { UpdatesDraft (with_interface self.old line.now) self.old self.new result }
     {
         let Some((id, bases)) = cut_word(line) else {
             return Err(Misfit::Is(LineCause::Words));

@@ -1,8 +1,8 @@
 //! Octets in hexadecimal digits.
 
 ghost use Rattle.std.specs.Prelude.{◌≡◌};
-ghost use Rattle.td_lines.specs.Causes.{Gives};
-ghost use Rattle.td_lines.specs.Octets.{octets_told, seed_told};
+ghost use Rattle.td_lines.specs.Causes.{ParsesLine};
+ghost use Rattle.td_lines.specs.Octets.{parse_octets, parse_seed};
 
 use crate::cause::{LineCause, Misfit};
 use hex::FromHexError;
@@ -10,8 +10,8 @@ use std::alloc::Global;
 use td_cdr::Octets;
 
 /// The octets that hexadecimal digits spell.
-pub(crate) fn octets_told(alloc: Global, digits: &[u8]) -> Result<Octets, Misfit>
-    ensures { Gives (octets_told digits.now) result }
+pub(crate) fn parse_octets(alloc: Global, digits: &[u8]) -> Result<Octets, Misfit>
+    ensures { ParsesLine (parse_octets digits.now) result }
 {
     match hex::decode(alloc, digits) {
         Ok(octets) => Ok(Octets::from_vec(octets)),
@@ -21,11 +21,11 @@ pub(crate) fn octets_told(alloc: Global, digits: &[u8]) -> Result<Octets, Misfit
 }
 
 /// The 32 octets that 64 hexadecimal digits spell.
-pub(crate) fn seed_told(alloc: Global, digits: &[u8]) -> Result<Octets, Misfit>
-    ensures { Gives (seed_told digits.now) result }
+pub(crate) fn parse_seed(alloc: Global, digits: &[u8]) -> Result<Octets, Misfit>
+    ensures { ParsesLine (parse_seed digits.now) result }
 {
     if digits.len() != 64 {
         return Err(Misfit::Is(LineCause::Value));
     }
-    octets_told(alloc, digits)
+    parse_octets(alloc, digits)
 }

@@ -3,8 +3,8 @@
 ghost use Rattle.std.specs.Prelude.{◌≡◌, ◌||◌, nat_lt, length};
 ghost use Rattle.std.specs.List.{list_any};
 ghost use Rattle.td_cdr.specs.Text.{has_nul};
-ghost use Rattle.td_lines.specs.Causes.{Gives};
-ghost use Rattle.td_lines.specs.Homes.{home_told, is_no_host, with_minor};
+ghost use Rattle.td_lines.specs.Causes.{ParsesLine};
+ghost use Rattle.td_lines.specs.Homes.{parse_home, is_no_host, with_minor};
 
 use crate::cause::{LineCause, Misfit};
 use crate::entry::Home;
@@ -27,8 +27,8 @@ fn is_no_host(host: &[u8]) -> bool
 }
 
 /// The address that a host and a port tell, reached by IIOP 1.0.
-pub(crate) fn home_told(alloc: Global, host: &[u8], port: &[u8]) -> Result<Home, Misfit>
-    ensures { Gives (home_told host.now port.now) result }
+pub(crate) fn parse_home(alloc: Global, host: &[u8], port: &[u8]) -> Result<Home, Misfit>
+    ensures { ParsesLine (parse_home host.now port.now) result }
 {
     if is_no_host(host) {
         return Err(Misfit::Is(LineCause::Name));

@@ -10,7 +10,7 @@ use td_cdr::{Named, find_named};
 
 /// What a line that begins an entry says.
 #[derive(Clone, Copy, Debug, PartialEq, Eq)]
-pub(crate) enum Head {
+pub(crate) enum EntryHead {
     Address,
     Seed,
     Iiop,
@@ -26,7 +26,7 @@ pub(crate) enum Head {
 
 /// What a line that belongs to the entry above it says.
 #[derive(Clone, Copy, Debug, PartialEq, Eq)]
-pub(crate) enum Part {
+pub(crate) enum DetailKeyword {
     Prop,
     With,
     Dynamic,
@@ -35,35 +35,35 @@ pub(crate) enum Part {
 /// What a line says.
 #[derive(Clone, Copy, Debug, PartialEq, Eq)]
 pub(crate) enum Keyword {
-    Begins(Head),
-    Belongs(Part),
+    Begins(EntryHead),
+    Belongs(DetailKeyword),
 }
 
-fn head_name(head: Head) -> &'static str
+fn head_name(head: EntryHead) -> &'static str
     ensures { result.now ≡ head_name head }
 {
     match head {
-        Head::Address => "address",
-        Head::Seed => "seed",
-        Head::Iiop => "iiop",
-        Head::Trader => "trader",
-        Head::Stem => "stem",
-        Head::Set => "set",
-        Head::Interface => "interface",
-        Head::Type => "type",
-        Head::Offer => "offer",
-        Head::Proxy => "proxy",
-        Head::Link => "link",
+        EntryHead::Address => "address",
+        EntryHead::Seed => "seed",
+        EntryHead::Iiop => "iiop",
+        EntryHead::Trader => "trader",
+        EntryHead::Stem => "stem",
+        EntryHead::Set => "set",
+        EntryHead::Interface => "interface",
+        EntryHead::Type => "type",
+        EntryHead::Offer => "offer",
+        EntryHead::Proxy => "proxy",
+        EntryHead::Link => "link",
     }
 }
 
-fn part_name(part: Part) -> &'static str
+fn part_name(part: DetailKeyword) -> &'static str
     ensures { result.now ≡ part_name part }
 {
     match part {
-        Part::Prop => "prop",
-        Part::With => "with",
-        Part::Dynamic => "dynamic",
+        DetailKeyword::Prop => "prop",
+        DetailKeyword::With => "with",
+        DetailKeyword::Dynamic => "dynamic",
     }
 }
 
@@ -83,20 +83,20 @@ fn keyword_named(word: &[u8]) -> Option<Keyword>
 {
     find_named(
         &[
-            Keyword::Begins(Head::Address),
-            Keyword::Begins(Head::Seed),
-            Keyword::Begins(Head::Iiop),
-            Keyword::Begins(Head::Trader),
-            Keyword::Begins(Head::Stem),
-            Keyword::Begins(Head::Set),
-            Keyword::Begins(Head::Interface),
-            Keyword::Begins(Head::Type),
-            Keyword::Begins(Head::Offer),
-            Keyword::Begins(Head::Proxy),
-            Keyword::Begins(Head::Link),
-            Keyword::Belongs(Part::Prop),
-            Keyword::Belongs(Part::With),
-            Keyword::Belongs(Part::Dynamic),
+            Keyword::Begins(EntryHead::Address),
+            Keyword::Begins(EntryHead::Seed),
+            Keyword::Begins(EntryHead::Iiop),
+            Keyword::Begins(EntryHead::Trader),
+            Keyword::Begins(EntryHead::Stem),
+            Keyword::Begins(EntryHead::Set),
+            Keyword::Begins(EntryHead::Interface),
+            Keyword::Begins(EntryHead::Type),
+            Keyword::Begins(EntryHead::Offer),
+            Keyword::Begins(EntryHead::Proxy),
+            Keyword::Begins(EntryHead::Link),
+            Keyword::Belongs(DetailKeyword::Prop),
+            Keyword::Belongs(DetailKeyword::With),
+            Keyword::Belongs(DetailKeyword::Dynamic),
         ],
         word,
     )

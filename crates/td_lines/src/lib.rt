@@ -27,6 +27,6 @@ mod typed;
 mod words;
 
 pub use cause::LineCause;
-pub use entry::{Entry, Home, Numbered, Refused, Script, TraderScript};
+pub use entry::{FileEntry, Home, Numbered, Refused, Script, TraderScript};
 pub use laws::{scripts_are_sound, worked_files};
 pub use reading::read_script;

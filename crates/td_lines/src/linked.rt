@@ -2,14 +2,14 @@
 
 ghost use Rattle.std.specs.Prelude.{◌≡◌, IfOk};
 ghost use Rattle.std.specs.Option.{option_map};
-ghost use Rattle.td_lines.specs.Causes.{Gives};
-ghost use Rattle.td_lines.specs.Drafts.{Takes};
-ghost use Rattle.td_lines.specs.Linked.{ends_told, inside_link, outside_link, rules_told, with_link, with_outside};
+ghost use Rattle.td_lines.specs.Causes.{ParsesLine};
+ghost use Rattle.td_lines.specs.Drafts.{UpdatesDraft};
+ghost use Rattle.td_lines.specs.Linked.{parse_ends, inside_link, outside_link, parse_rules, with_link, with_outside};
 
 use crate::cause::{LineCause, Misfit};
-use crate::draft::Draft;
-use crate::entry::Entry;
-use crate::references::{reference_told, register_told};
+use crate::draft::ScriptDraft;
+use crate::entry::FileEntry;
+use crate::references::{parse_reference, parse_register};
 use crate::words::{five_words, four_words};
 use std::alloc::Global;
 use td_cdr::{Boxed, Memory, Text};
@@ -18,8 +18,8 @@ use td_ops::Change;
 use td_value::{FollowOption, Ior};
 
 /// The two rules of a link.
-fn rules_told(def_pass_on: &[u8], limiting: &[u8]) -> Result<(FollowOption, FollowOption), Misfit>
-    ensures { Gives (rules_told def_pass_on.now limiting.now) result }
+fn parse_rules(def_pass_on: &[u8], limiting: &[u8]) -> Result<(FollowOption, FollowOption), Misfit>
+    ensures { ParsesLine (parse_rules def_pass_on.now limiting.now) result }
 {
     let Some(def_pass_on) = rule_named(def_pass_on) else {
         return Err(Misfit::Is(LineCause::Name));
@@ -31,15 +31,15 @@ fn rules_told(def_pass_on: &[u8], limiting: &[u8]) -> Result<(FollowOption, Foll
 }
 
 /// The target of an outside link, and its Register.
-fn ends_told(
+fn parse_ends(
     alloc: Global,
     target: &[u8],
     register: &[u8],
 ) -> Result<(Boxed<Ior>, Option<Ior>), Misfit>
-    ensures { Gives (ends_told target.now register.now) result }
+    ensures { ParsesLine (parse_ends target.now register.now) result }
 {
-    let target = Boxed::new(alloc, reference_told(alloc, target)?)?;
-    match register_told(alloc, register) {
+    let target = Boxed::new(alloc, parse_reference(alloc, target)?)?;
+    match parse_register(alloc, register) {
         Ok(register) => Ok((target, register)),
         Err(misfit) => {
             drop(target);
@@ -55,12 +55,12 @@ fn inside_link(
     trader: &[u8],
     def_pass_on: FollowOption,
     limiting: FollowOption,
-) -> Result<Entry, Memory>
+) -> Result<FileEntry, Memory>
     ensures { IfOk result (λ e. e ≡ inside_link name.now trader.now def_pass_on limiting) }
 {
     let name = Text::from_slice(alloc, name)?;
     let trader = Text::from_slice(alloc, trader)?;
-    Ok(Entry::Link {
+    Ok(FileEntry::Link {
         name,
         trader,
         def_pass_on,
@@ -76,11 +76,11 @@ fn outside_link(
     register: Option<Ior>,
     def_pass_on: FollowOption,
     limiting: FollowOption,
-) -> Result<Entry, Memory>
+) -> Result<FileEntry, Memory>
     ensures { IfOk result (λ e. e ≡ outside_link name.now target register def_pass_on limiting) }
 {
     match Text::from_slice(alloc, name) {
-        Ok(name) => Ok(Entry::Change(Change::AddLink {
+        Ok(name) => Ok(FileEntry::Change(Change::AddLink {
             name,
             target,
             def_pass_on,
@@ -95,7 +95,7 @@ fn outside_link(
     }
 }
 
-impl Draft {
+impl ScriptDraft {
     /// `link NAME TRADER DEF LIMIT`, or `link NAME REF REGISTER DEF LIMIT`
     #[tactic(auto, unfolding(crate::specs::Linked::with_link))]
     pub(crate) fn take_link(
@@ -104,7 +104,7 @@ impl Draft {
         number: u32,
         line: &[u8],
     ) -> Result<(), Misfit>
-        ensures { Takes (with_link self.old number line.now) self.old self.new result }
+        ensures { UpdatesDraft (with_link self.old number line.now) self.old self.new result }
     {
         let Some((name, trader, def_pass_on, limiting)) = four_words(line) else {
             return self.take_outside(alloc, number, line);
@@ -112,7 +112,7 @@ impl Draft {
         if !self.has_trader() {
             return Err(Misfit::Is(LineCause::Place));
         }
-        let (def_pass_on, limiting) = rules_told(def_pass_on, limiting)?;
+        let (def_pass_on, limiting) = parse_rules(def_pass_on, limiting)?;
         let entry = inside_link(alloc, name, trader, def_pass_on, limiting)?;
         self.put(number, entry)?;
         Ok(())
@@ -121,7 +121,7 @@ impl Draft {
     /// `link NAME REF REGISTER DEF LIMIT`
     #[tactic(auto, unfolding(crate::specs::Linked::with_outside))]
     fn take_outside(&mut self, alloc: Global, number: u32, line: &[u8]) -> Result<(), Misfit>
-        ensures { Takes (with_outside self.old number line.now) self.old self.new result }
+        ensures { UpdatesDraft (with_outside self.old number line.now) self.old self.new result }
     {
         let Some((name, target, register, def_pass_on, limiting)) = five_words(line) else {
             return Err(Misfit::Is(LineCause::Words));
@@ -129,8 +129,8 @@ impl Draft {
         if !self.has_trader() {
             return Err(Misfit::Is(LineCause::Place));
         }
-        let (target, register) = ends_told(alloc, target, register)?;
-        let (def_pass_on, limiting) = rules_told(def_pass_on, limiting)?;
+        let (target, register) = parse_ends(alloc, target, register)?;
+        let (def_pass_on, limiting) = parse_rules(def_pass_on, limiting)?;
         let entry = outside_link(alloc, name, target, register, def_pass_on, limiting)?;
         self.put(number, entry)?;
         Ok(())

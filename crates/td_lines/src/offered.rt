@@ -2,16 +2,16 @@
 
 ghost use Rattle.std.specs.Prelude.{◌≡◌, ◌&&◌, IfOk};
 ghost use Rattle.std.specs.Option.{option_map};
-ghost use Rattle.td_lines.specs.Causes.{Gives};
-ghost use Rattle.td_lines.specs.Drafts.{Takes};
-ghost use Rattle.td_lines.specs.Offered.{how_named, new_offer, proxy_told, with_added_property, with_dynamic};
+ghost use Rattle.td_lines.specs.Causes.{ParsesLine};
+ghost use Rattle.td_lines.specs.Drafts.{UpdatesDraft};
+ghost use Rattle.td_lines.specs.Offered.{how_named, new_offer, parse_proxy, with_added_property, with_dynamic};
 ghost use Rattle.td_lines.specs.Offered.{with_new_offer, with_offer, with_proxy, with_value};
 
 use crate::cause::{LineCause, Misfit};
-use crate::draft::{Draft, Open, OpenOffer, ProxyWords};
-use crate::dynamic::dynamic_told;
-use crate::properties::property_told;
-use crate::references::reference_told;
+use crate::draft::{Open, OpenOffer, ProxyWords, ScriptDraft};
+use crate::dynamic::parse_dynamic;
+use crate::properties::parse_property;
+use crate::references::parse_reference;
 use crate::words::{three_and_text, three_words, two_and_text, two_words};
 use std::alloc::Global;
 use td_cdr::{List, Memory, Text, has_nul};
@@ -31,8 +31,8 @@ fn how_named(word: &[u8]) -> Option<bool>
 }
 
 /// What makes an offer a proxy offer.
-fn proxy_told(alloc: Global, how: &[u8], recipe: &[u8]) -> Result<ProxyWords, Misfit>
-    ensures { Gives (proxy_told how.now recipe.now) result }
+fn parse_proxy(alloc: Global, how: &[u8], recipe: &[u8]) -> Result<ProxyWords, Misfit>
+    ensures { ParsesLine (parse_proxy how.now recipe.now) result }
 {
     let Some(if_match_all) = how_named(how) else {
         return Err(Misfit::Is(LineCause::Name));
@@ -73,7 +73,7 @@ fn new_offer(
     }
 }
 
-impl Draft {
+impl ScriptDraft {
     /// `offer TYPE REF`
     #[tactic(auto, unfolding(crate::specs::Offered::with_offer))]
     pub(crate) fn take_offer(
@@ -82,7 +82,7 @@ impl Draft {
         number: u32,
         line: &[u8],
     ) -> Result<(), Misfit>
-        ensures { Takes (with_offer self.old number line.now) self.old self.new result }
+        ensures { UpdatesDraft (with_offer self.old number line.now) self.old self.new result }
     {
         let Some((service_type, word)) = two_words(line) else {
             return Err(Misfit::Is(LineCause::Words));
@@ -90,7 +90,7 @@ impl Draft {
         if !self.has_trader() {
             return Err(Misfit::Is(LineCause::Place));
         }
-        let reference = reference_told(alloc, word)?;
+        let reference = parse_reference(alloc, word)?;
         let one = new_offer(alloc, number, service_type, reference, None)?;
         self.begin_offer(one);
         Ok(())
@@ -104,7 +104,7 @@ impl Draft {
         number: u32,
         line: &[u8],
     ) -> Result<(), Misfit>
-        ensures { Takes (with_proxy self.old number line.now) self.old self.new result }
+        ensures { UpdatesDraft (with_proxy self.old number line.now) self.old self.new result }
     {
         let Some((service_type, word, how, recipe)) = three_and_text(line) else {
             return Err(Misfit::Is(LineCause::Words));
@@ -112,8 +112,8 @@ impl Draft {
         if !self.has_trader() {
             return Err(Misfit::Is(LineCause::Place));
         }
-        let reference = reference_told(alloc, word)?;
-        let proxy = proxy_told(alloc, how, recipe)?;
+        let reference = parse_reference(alloc, word)?;
+        let proxy = parse_proxy(alloc, how, recipe)?;
         let one = new_offer(alloc, number, service_type, reference, Some(proxy))?;
         self.begin_offer(one);
         Ok(())
@@ -128,7 +128,7 @@ impl Draft {
     /// `with VALUETYPE NAME VALUE`
     #[tactic(auto, unfolding(crate::specs::Offered::with_value))]
     pub(crate) fn take_value(&mut self, alloc: Global, line: &[u8]) -> Result<(), Misfit>
-        ensures { Takes (with_value self.old line.now) self.old self.new result }
+        ensures { UpdatesDraft (with_value self.old line.now) self.old self.new result }
     {
         let Some((value_type, name, text)) = two_and_text(line) else {
             return Err(Misfit::Is(LineCause::Words));
@@ -136,14 +136,14 @@ impl Draft {
         if self.offer_line().is_none() {
             return Err(Misfit::Is(LineCause::Place));
         }
-        let property = property_told(alloc, value_type, name, text)?;
+        let property = parse_property(alloc, value_type, name, text)?;
         self.add_property(property)
     }
 
     /// `dynamic VALUETYPE NAME REF`
     #[tactic(auto, unfolding(crate::specs::Offered::with_dynamic))]
     pub(crate) fn take_dynamic(&mut self, alloc: Global, line: &[u8]) -> Result<(), Misfit>
-        ensures { Takes (with_dynamic self.old line.now) self.old self.new result }
+        ensures { UpdatesDraft (with_dynamic self.old line.now) self.old self.new result }
     {
         let Some((value_type, name, word)) = three_words(line) else {
             return Err(Misfit::Is(LineCause::Words));
@@ -151,13 +151,13 @@ impl Draft {
         if self.offer_line().is_none() {
             return Err(Misfit::Is(LineCause::Place));
         }
-        let property = dynamic_told(alloc, value_type, name, word)?;
+        let property = parse_dynamic(alloc, value_type, name, word)?;
         self.add_property(property)
     }
 
     /// Adds a property to the offer above.
     fn add_property(&mut self, property: Property) -> Result<(), Misfit>
-        ensures { Takes (with_added_property self.old self.old.above property)
+        ensures { UpdatesDraft (with_added_property self.old self.old.above property)
             self.old self.new result }
     {
         match &mut self.above {

@@ -1,82 +1,82 @@
 //! A line, whatever it says.
 
 ghost use Rattle.std.specs.Prelude.{◌≡◌};
-ghost use Rattle.td_lines.specs.Drafts.{Takes, line_above};
+ghost use Rattle.td_lines.specs.Drafts.{UpdatesDraft, line_above};
 ghost use Rattle.td_lines.specs.Steps.{Steps, at, with_alone, with_begin, with_belonging, with_head, with_line};
 ghost use Rattle.td_lines.specs.Steps.{with_part, with_unknown};
 
 use crate::cause::{LineCause, Misfit};
-use crate::draft::Draft;
+use crate::draft::ScriptDraft;
 use crate::entry::Refused;
-use crate::keyword::{Head, Keyword, Part, begin_of};
+use crate::keyword::{DetailKeyword, EntryHead, Keyword, begin_of};
 use crate::lines::is_skipped;
 use std::alloc::Global;
 use td_cdr::Memory;
 
 /// Why no more lines are taken.
 #[derive(Clone, Copy, Debug, PartialEq, Eq)]
-pub(crate) enum Stop {
+pub(crate) enum ParseStop {
     /// An entry is refused.
     At(Refused),
-    /// Want of memory.
+    /// Out of memory.
     Memory,
 }
 
-impl From<Memory> for Stop {
-    ghost use Rattle.td_lines.specs.declared.parts.Stop.TheVariants.{Memory as WantOfMemory};
+impl From<Memory> for ParseStop {
+    ghost use Rattle.td_lines.specs.declared.parts.ParseStop.TheVariants.{Memory as MemoryFault};
 
-    ghost from_gives = { λ _ e. e ≡ WantOfMemory };
+    ghost from_gives = { λ _ e. e ≡ MemoryFault };
 
-    fn from(_e: Memory) -> Stop {
-        Stop::Memory
+    fn from(_e: Memory) -> ParseStop {
+        ParseStop::Memory
     }
 }
 
 /// What a line comes to that belongs to the entry whose first line has this number.
-fn at(line: u32, told: Result<(), Misfit>) -> Result<(), Stop>
-    ensures { result ≡ at line told }
+fn at(line: u32, content: Result<(), Misfit>) -> Result<(), ParseStop>
+    ensures { result ≡ at line content }
 {
-    match told {
+    match content {
         Ok(()) => Ok(()),
-        Err(Misfit::Is(cause)) => Err(Stop::At(Refused { line, cause })),
-        Err(Misfit::Memory) => Err(Stop::Memory),
+        Err(Misfit::Is(cause)) => Err(ParseStop::At(Refused { line, cause })),
+        Err(Misfit::Memory) => Err(ParseStop::Memory),
     }
 }
 
-impl Draft {
+impl ScriptDraft {
     /// A line that begins an entry.
     fn take_head(
         &mut self,
         alloc: Global,
         number: u32,
-        head: Head,
+        head: EntryHead,
         line: &[u8],
     ) -> Result<(), Misfit>
-        ensures { Takes (with_head self.old number head line.now) self.old self.new result }
+        ensures { UpdatesDraft (with_head self.old number head line.now) self.old self.new result }
     {
         match head {
-            Head::Address => self.take_address(alloc, line),
-            Head::Seed => self.take_seed(alloc, line),
-            Head::Iiop => self.take_iiop(line),
-            Head::Trader => self.take_trader(alloc, line),
-            Head::Stem => self.take_stem(alloc, number, line),
-            Head::Set => self.take_set(number, line),
-            Head::Interface => self.take_interface(alloc, line),
-            Head::Type => self.take_type(alloc, number, line),
-            Head::Offer => self.take_offer(alloc, number, line),
-            Head::Proxy => self.take_proxy(alloc, number, line),
-            Head::Link => self.take_link(alloc, number, line),
+            EntryHead::Address => self.take_address(alloc, line),
+            EntryHead::Seed => self.take_seed(alloc, line),
+            EntryHead::Iiop => self.take_iiop(line),
+            EntryHead::Trader => self.take_trader(alloc, line),
+            EntryHead::Stem => self.take_stem(alloc, number, line),
+            EntryHead::Set => self.take_set(number, line),
+            EntryHead::Interface => self.take_interface(alloc, line),
+            EntryHead::Type => self.take_type(alloc, number, line),
+            EntryHead::Offer => self.take_offer(alloc, number, line),
+            EntryHead::Proxy => self.take_proxy(alloc, number, line),
+            EntryHead::Link => self.take_link(alloc, number, line),
         }
     }
 
     /// A line that belongs to the entry above.
-    fn take_part(&mut self, alloc: Global, part: Part, line: &[u8]) -> Result<(), Misfit>
-        ensures { Takes (with_part self.old part line.now) self.old self.new result }
+    fn take_part(&mut self, alloc: Global, part: DetailKeyword, line: &[u8]) -> Result<(), Misfit>
+        ensures { UpdatesDraft (with_part self.old part line.now) self.old self.new result }
     {
         match part {
-            Part::Prop => self.take_prop(alloc, line),
-            Part::With => self.take_value(alloc, line),
-            Part::Dynamic => self.take_dynamic(alloc, line),
+            DetailKeyword::Prop => self.take_prop(alloc, line),
+            DetailKeyword::With => self.take_value(alloc, line),
+            DetailKeyword::Dynamic => self.take_dynamic(alloc, line),
         }
     }
 
@@ -85,14 +85,14 @@ impl Draft {
         &mut self,
         alloc: Global,
         number: u32,
-        head: Head,
+        head: EntryHead,
         line: &[u8],
-    ) -> Result<(), Stop>
+    ) -> Result<(), ParseStop>
         ensures { Steps (with_begin self.old number head line.now) self.new result }
     {
         self.close(alloc)?;
-        let told = self.take_head(alloc, number, head, line);
-        at(number, told)
+        let content = self.take_head(alloc, number, head, line);
+        at(number, content)
     }
 
     /// A line that belongs to the entry above, if such a one is there.
@@ -100,16 +100,16 @@ impl Draft {
         &mut self,
         alloc: Global,
         number: u32,
-        part: Part,
+        part: DetailKeyword,
         line: &[u8],
-    ) -> Result<(), Stop>
+    ) -> Result<(), ParseStop>
         ensures { Steps (with_belonging self.old number part line.now
             (line_above self.old.above part)) self.new result }
     {
         match self.line_above(part) {
             Some(first) => {
-                let told = self.take_part(alloc, part, line);
-                at(first, told)
+                let content = self.take_part(alloc, part, line);
+                at(first, content)
             }
             None => self.take_alone(alloc, number, part, line),
         }
@@ -120,22 +120,22 @@ impl Draft {
         &mut self,
         alloc: Global,
         number: u32,
-        part: Part,
+        part: DetailKeyword,
         line: &[u8],
-    ) -> Result<(), Stop>
+    ) -> Result<(), ParseStop>
         ensures { Steps (with_alone self.old number part line.now) self.new result }
     {
         self.close(alloc)?;
-        let told = self.take_part(alloc, part, line);
-        at(number, told)
+        let content = self.take_part(alloc, part, line);
+        at(number, content)
     }
 
     /// A line whose first word is none of those known.
-    fn take_unknown(&mut self, alloc: Global, number: u32) -> Result<(), Stop>
+    fn take_unknown(&mut self, alloc: Global, number: u32) -> Result<(), ParseStop>
         ensures { Steps (with_unknown self.old number) self.new result }
     {
         self.close(alloc)?;
-        Err(Stop::At(Refused {
+        Err(ParseStop::At(Refused {
             line: number,
             cause: LineCause::Words,
         }))
@@ -145,9 +145,9 @@ impl Draft {
     ///
     /// # Errors
     ///
-    /// `At` exactly where an entry is refused, with its first line; `Memory` for want of memory.
+    /// `At` exactly where an entry is refused, with its first line; `Memory` when out of memory.
     #[tactic(auto, unfolding(crate::specs::Steps::with_line))]
-    pub(crate) fn take(&mut self, alloc: Global, number: u32, line: &[u8]) -> Result<(), Stop>
+    pub(crate) fn take(&mut self, alloc: Global, number: u32, line: &[u8]) -> Result<(), ParseStop>
         ensures { Steps (with_line self.old number line.now) self.new result }
     {
         if is_skipped(line) {

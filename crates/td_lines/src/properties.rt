@@ -1,8 +1,8 @@
 //! Properties of types and of offers.
 
 ghost use Rattle.std.specs.Prelude.{◌≡◌, IfOk};
-ghost use Rattle.td_lines.specs.Causes.{Gives};
-ghost use Rattle.td_lines.specs.Properties.{plain_any, prop_told, prop_with, property_told, value_told};
+ghost use Rattle.td_lines.specs.Causes.{ParsesLine};
+ghost use Rattle.td_lines.specs.Properties.{plain_any, parse_prop, prop_with, parse_property, parse_value};
 
 use crate::cause::{LineCause, Misfit};
 use std::alloc::Global;
@@ -28,13 +28,13 @@ fn prop_with(
 }
 
 /// The property of a type that a `prop` line declares.
-pub(crate) fn prop_told(
+pub(crate) fn parse_prop(
     alloc: Global,
     mode: &[u8],
     value_type: &[u8],
     name: &[u8],
 ) -> Result<PropStruct, Misfit>
-    ensures { Gives (prop_told mode.now value_type.now name.now) result }
+    ensures { ParsesLine (parse_prop mode.now value_type.now name.now) result }
 {
     let Some(mode) = mode_named(mode) else {
         return Err(Misfit::Is(LineCause::Name));
@@ -47,8 +47,8 @@ pub(crate) fn prop_told(
 }
 
 /// The value of a type that a text spells.
-fn value_told(alloc: Global, value_type: ValueType, text: &[u8]) -> Result<Value, Misfit>
-    ensures { Gives (value_told value_type text.now) result }
+fn parse_value(alloc: Global, value_type: ValueType, text: &[u8]) -> Result<Value, Misfit>
+    ensures { ParsesLine (parse_value value_type text.now) result }
 {
     match value_of(alloc, value_type, text)? {
         Some(value) => Ok(value),
@@ -70,7 +70,7 @@ fn plain_any(alloc: Global, value_type: ValueType, value: Value) -> Result<Any, 
 }
 
 /// A property of this value.
-pub(crate) fn named(alloc: Global, name: &[u8], value: Any) -> Result<Property, Memory>
+pub(crate) fn property_named_as(alloc: Global, name: &[u8], value: Any) -> Result<Property, Memory>
     ensures { IfOk result (λ p. p ≡ record { name = name.now; value = value }) }
 {
     match Text::from_slice(alloc, name) {
@@ -83,19 +83,19 @@ pub(crate) fn named(alloc: Global, name: &[u8], value: Any) -> Result<Property, 
 }
 
 /// The property of an offer that a `with` line gives.
-pub(crate) fn property_told(
+pub(crate) fn parse_property(
     alloc: Global,
     value_type: &[u8],
     name: &[u8],
     text: &[u8],
 ) -> Result<Property, Misfit>
-    ensures { Gives (property_told value_type.now name.now text.now) result }
+    ensures { ParsesLine (parse_property value_type.now name.now text.now) result }
 {
     let Some(value_type) = value_type_of(value_type) else {
         return Err(Misfit::Is(LineCause::Name));
     };
-    let value = value_told(alloc, value_type, text)?;
+    let value = parse_value(alloc, value_type, text)?;
     let any = plain_any(alloc, value_type, value)?;
-    let property = named(alloc, name, any)?;
+    let property = property_named_as(alloc, name, any)?;
     Ok(property)
 }

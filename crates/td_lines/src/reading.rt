@@ -1,13 +1,13 @@
 //! A whole file.
 
 ghost use Rattle.std.specs.Prelude.{◌≡◌, ◌<◌, ◌^◌, length, IfOk};
-ghost use Rattle.td_lines.specs.Scripts.{ended, script, script_of, seed_or_zeros};
+ghost use Rattle.td_lines.specs.Scripts.{script_of_draft, script, script_of, seed_or_zeros};
 
 use crate::cause::LineCause;
-use crate::draft::Draft;
+use crate::draft::ScriptDraft;
 use crate::entry::{Refused, Script};
 use crate::lines::next_line;
-use crate::parts::Stop;
+use crate::parts::ParseStop;
 use std::alloc::Global;
 use td_cdr::{Memory, Octets};
 
@@ -21,7 +21,7 @@ fn seed_or_zeros(alloc: Global, seed: Option<Octets>) -> Result<Octets, Memory>
     }
 }
 
-impl Draft {
+impl ScriptDraft {
     /// What the lines say, of which the first of this entry is refused.
     fn into_script(mut self, alloc: Global, refused: Option<Refused>) -> Result<Script, Memory>
         ensures { IfOk result (λ s. s ≡ script self refused) }
@@ -38,7 +38,7 @@ impl Draft {
 
     /// What all lines say. An address must be among them.
     fn end(mut self, alloc: Global) -> Result<Script, Memory>
-        ensures { IfOk result (λ s. s ≡ ended self) }
+        ensures { IfOk result (λ s. s ≡ script_of_draft self) }
     {
         self.close(alloc)?;
         if self.home.is_some() {
@@ -59,13 +59,13 @@ impl Draft {
 ///
 /// # Errors
 ///
-/// `Memory` for want of memory alone.
+/// `Memory` only when out of memory.
 #[tactic(auto, unfolding(crate::specs::Scripts::script_of))]
 pub fn read_script(alloc: Global, text: &[u8]) -> Result<Script, Memory>
     requires { length text.now < 2 ^ 32 }
     ensures { IfOk result (λ s. s ≡ script_of text.now) }
 {
-    let mut draft = Draft::new(alloc);
+    let mut draft = ScriptDraft::new(alloc);
     let mut rest = text;
     let mut number: u32 = 0;
     while !rest.is_empty() {
@@ -73,8 +73,8 @@ pub fn read_script(alloc: Global, text: &[u8]) -> Result<Script, Memory>
         number += 1;
         match draft.take(alloc, number, line) {
             Ok(()) => {}
-            Err(Stop::At(refused)) => return draft.into_script(alloc, Some(refused)),
-            Err(Stop::Memory) => return Err(Memory),
+            Err(ParseStop::At(refused)) => return draft.into_script(alloc, Some(refused)),
+            Err(ParseStop::Memory) => return Err(Memory),
         }
         rest = after;
     }

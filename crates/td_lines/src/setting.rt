@@ -2,8 +2,8 @@
 
 ghost use Rattle.std.specs.Prelude.{◌≡◌, codes};
 ghost use Rattle.td_cdr.specs.Format.{value_named};
-ghost use Rattle.td_lines.specs.Causes.{Gives};
-ghost use Rattle.td_lines.specs.Settings.{follow_change, number_change, setting_name, setting_told, settings};
+ghost use Rattle.td_lines.specs.Causes.{ParsesLine};
+ghost use Rattle.td_lines.specs.Settings.{follow_change, number_change, setting_name, parse_setting, settings};
 ghost use Rattle.td_lines.specs.Settings.{change_to, truth_change};
 ghost use Rattle.td_ops.specs.Attributes.{follow_name, number_name, truth_name};
 
@@ -136,8 +136,8 @@ fn change_to(setting: Setting, value: &[u8]) -> Option<Change>
 }
 
 /// The change that a `set` line asks for.
-pub(crate) fn setting_told(attribute: &[u8], value: &[u8]) -> Result<Change, Misfit>
-    ensures { Gives (setting_told attribute.now value.now) result }
+pub(crate) fn parse_setting(attribute: &[u8], value: &[u8]) -> Result<Change, Misfit>
+    ensures { ParsesLine (parse_setting attribute.now value.now) result }
 {
     let Some(setting) = setting_named(attribute) else {
         return Err(Misfit::Is(LineCause::Name));

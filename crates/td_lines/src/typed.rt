@@ -1,12 +1,12 @@
 //! Lines of types: `type`, and the `prop` lines that belong to it.
 
 ghost use Rattle.std.specs.Prelude.{◌≡◌, IfOk};
-ghost use Rattle.td_lines.specs.Drafts.{Takes};
+ghost use Rattle.td_lines.specs.Drafts.{UpdatesDraft};
 ghost use Rattle.td_lines.specs.Typed.{if_name_of, new_type, with_added_prop, with_new_type, with_prop, with_type};
 
 use crate::cause::{LineCause, Misfit};
-use crate::draft::{Draft, Open, OpenType};
-use crate::properties::prop_told;
+use crate::draft::{Open, OpenType, ScriptDraft};
+use crate::properties::parse_prop;
 use crate::words::{cut_word, three_words, words_of};
 use std::alloc::Global;
 use td_cdr::{List, Memory, Text, has_nul};
@@ -41,7 +41,7 @@ fn new_type(
     })
 }
 
-impl Draft {
+impl ScriptDraft {
     /// `type NAME IFID SUPER ..`
     #[tactic(auto, unfolding(crate::specs::Typed::with_type))]
     pub(crate) fn take_type(
@@ -50,7 +50,7 @@ impl Draft {
         number: u32,
         line: &[u8],
     ) -> Result<(), Misfit>
-        ensures { Takes (with_type self.old number line.now) self.old self.new result }
+        ensures { UpdatesDraft (with_type self.old number line.now) self.old self.new result }
     {
         let Some((name, rest)) = cut_word(line) else {
             return Err(Misfit::Is(LineCause::Words));
@@ -79,7 +79,7 @@ impl Draft {
     /// `prop MODE VALUETYPE NAME`
     #[tactic(auto, unfolding(crate::specs::Typed::with_prop))]
     pub(crate) fn take_prop(&mut self, alloc: Global, line: &[u8]) -> Result<(), Misfit>
-        ensures { Takes (with_prop self.old line.now) self.old self.new result }
+        ensures { UpdatesDraft (with_prop self.old line.now) self.old self.new result }
     {
         let Some((mode, value_type, name)) = three_words(line) else {
             return Err(Misfit::Is(LineCause::Words));
@@ -87,13 +87,14 @@ impl Draft {
         if self.type_line().is_none() {
             return Err(Misfit::Is(LineCause::Place));
         }
-        let prop = prop_told(alloc, mode, value_type, name)?;
+        let prop = parse_prop(alloc, mode, value_type, name)?;
         self.add_prop(prop)
     }
 
     /// Adds a property to the type above.
     fn add_prop(&mut self, prop: PropStruct) -> Result<(), Misfit>
-        ensures { Takes (with_added_prop self.old self.old.above prop) self.old self.new result }
+        ensures { UpdatesDraft (with_added_prop self.old self.old.above prop) self.old self.new
+            result }
     {
         match &mut self.above {
             Open::Type(one) => {

@@ -67,7 +67,7 @@ fn has_word(line: &[u8]) -> bool
 ///
 /// # Errors
 ///
-/// `Memory` for want of memory alone.
+/// `Memory` only when out of memory.
 pub(crate) fn words_of(alloc: Global, line: &[u8]) -> Result<List<Text>, Memory>
     ensures { IfOk result (λ found. found ≡ words line.now) }
 {

@@ -1,10 +1,10 @@
 -- What the tests hand in is small.
 use Rattle.std.proofs.Common.{◌≡◌, ℕ, ◌+◌, ◌≤◌, List, [], ◌∷◌, ◌++◌, length, length-append, subst, sym, arith}
 use Rattle.std.specs.List.{AllByRecursion}
-use Rattle.td_codes.specs.declared.reference.Ior.{Ior}
+use Rattle.td_typecode.specs.declared.reference.Ior.{Ior}
 use Rattle.td_cdr.specs.Sound.{text}
-use Rattle.td_codes.specs.References.{profile, reference}
-use Rattle.td_iter.specs.Filling.{counted}
+use Rattle.td_typecode.specs.References.{profile, reference}
+use Rattle.td_iter.specs.Filling.{count_before}
 use Rattle.td_iter.specs.Heads.{nil, AreSmallIds, AreSmallOffers, IsShort, IsSmallReference, AreLimits}
 use Rattle.td_iter.proofs.Counting.{counted-length}
 use Rattle.td_iter.proofs.Endings.{nil-small, text-length}
@@ -26,9 +26,9 @@ offer-short id h order place =
     let r : Ior = record { id = id; profiles = [] } in
     let front = text.format.writes id order place in
     let after = place + length front in
-    let none = counted profile.format.writes [] order after in
+    let none = count_before profile.format.writes [] order after in
     let whole = reference.format.writes r order place in
-    let last = counted property.format.writes [] order (place + length whole) in
+    let last = count_before property.format.writes [] order (place + length whole) in
     omega (
       arith,
       h,

@@ -4,7 +4,7 @@ use crate::refusals::{file_of, script_of};
 use std::alloc::Global;
 use std::test::Fail;
 use td_cdr::{Boxed, List, Text};
-use td_lines::{Entry, Numbered, Script, TraderScript};
+use td_lines::{FileEntry, Numbered, Script, TraderScript};
 use td_ops::Change;
 use td_value::{PropStruct, Property, PropertyMode, TypeCode, Value};
 
@@ -61,7 +61,7 @@ fn are_props(props: &[PropStruct]) -> bool {
 
 fn is_type(one: &Numbered) -> bool {
     match &one.entry {
-        Entry::Change(
+        FileEntry::Change(
             Change::AddType {
                 name,
                 if_name,
@@ -100,7 +100,7 @@ fn are_properties(properties: &[Property]) -> bool {
 
 fn is_offer(one: &Numbered) -> bool {
     match &one.entry {
-        Entry::Change(
+        FileEntry::Change(
             Change::Export {
                 service_type,
                 properties,
@@ -113,7 +113,7 @@ fn is_offer(one: &Numbered) -> bool {
 
 fn is_proxy(one: &Numbered) -> bool {
     match &one.entry {
-        Entry::Change(
+        FileEntry::Change(
             Change::ExportProxy {
                 if_match_all,
                 recipe,
@@ -131,7 +131,7 @@ fn is_proxy(one: &Numbered) -> bool {
 
 fn is_inside(one: &Numbered) -> bool {
     match &one.entry {
-        Entry::Link { name, trader, .. } => {
+        FileEntry::Link { name, trader, .. } => {
             name.as_slice() == b"l".as_slice() && trader.as_slice() == b"A".as_slice()
         }
         _ => false,
@@ -141,7 +141,7 @@ fn is_inside(one: &Numbered) -> bool {
 /// A link to an outside trader, whose register is one or nil.
 fn is_outside(one: &Numbered, with_register: bool) -> bool {
     match &one.entry {
-        Entry::Change(Change::AddLink { register, .. }) => register.is_some() == with_register,
+        FileEntry::Change(Change::AddLink { register, .. }) => register.is_some() == with_register,
         _ => false,
     }
 }

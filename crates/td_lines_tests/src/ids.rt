@@ -26,8 +26,8 @@ fn gives(
     more: bool,
 ) -> Result<bool, Fail> {
     let mut w = started(alloc, order)?;
-    let told = left.next_n(alloc, n, &mut w)?;
-    Ok(told == more && is_body(alloc, &w, digits)?)
+    let content = left.next_n(alloc, n, &mut w)?;
+    Ok(content == more && is_body(alloc, &w, digits)?)
 }
 
 /// Whether the first batch for n has these bytes, and some are left.

@@ -46,16 +46,16 @@ const TWO: [Batch; 2] = [(0, EMPTY, true, 2), (0, NONE, true, 2)];
 fn gives_first(alloc: Global, left: &mut OfferIter, batch: &Batch) -> Result<bool, Fail> {
     let (n, digits, more, count) = batch;
     let mut w = started(alloc, Order::Big)?;
-    let told = left.first_batch(alloc, *n, &mut w, &nil(alloc), &no_limits(alloc))?;
-    Ok(told == *more && left.max_left() == *count && is_body(alloc, &w, digits)?)
+    let content = left.first_batch(alloc, *n, &mut w, &nil(alloc), &no_limits(alloc))?;
+    Ok(content == *more && left.max_left() == *count && is_body(alloc, &w, digits)?)
 }
 
 /// Whether `next_n` gives this batch.
 fn gives(alloc: Global, left: &mut OfferIter, batch: &Batch) -> Result<bool, Fail> {
     let (n, digits, more, count) = batch;
     let mut w = started(alloc, Order::Little)?;
-    let told = left.next_n(alloc, *n, &mut w)?;
-    Ok(told == *more && left.max_left() == *count && is_body(alloc, &w, digits)?)
+    let content = left.next_n(alloc, *n, &mut w)?;
+    Ok(content == *more && left.max_left() == *count && is_body(alloc, &w, digits)?)
 }
 
 fn gives_all(alloc: Global, left: &mut OfferIter, batches: &[Batch]) -> Result<bool, Fail> {
@@ -90,8 +90,8 @@ fn gives_whole(
     whole: bool,
 ) -> Result<bool, Fail> {
     let mut w = started(alloc, Order::Big)?;
-    let told = left.whole_batch(alloc, n, &mut w, &no_limits(alloc))?;
-    Ok(told == whole && is_body(alloc, &w, digits)?)
+    let content = left.whole_batch(alloc, n, &mut w, &no_limits(alloc))?;
+    Ok(content == whole && is_body(alloc, &w, digits)?)
 }
 
 /// A batch for fewer than are left isn't all, and one for more is.

@@ -144,9 +144,9 @@ fn add_byte(text: &mut Vec<u8>, byte: u8) -> Result<(), AllocError> {
 }
 
 /// A file whose line feeds are written as `|`, a thousand `h` as `~`, and 64 traders as `^`.
-pub(crate) fn file_of(alloc: Global, told: &str) -> Result<Vec<u8>, AllocError> {
+pub(crate) fn file_of(alloc: Global, content: &str) -> Result<Vec<u8>, AllocError> {
     let mut text = Vec::new(alloc);
-    for byte in told.as_bytes() {
+    for byte in content.as_bytes() {
         add_byte(&mut text, *byte)?;
     }
     Ok(text)
@@ -183,8 +183,8 @@ fn cause_named(word: &str) -> Option<LineCause> {
 }
 
 /// Whether the line and the cause are these.
-fn is_refused(refused: &Refused, told: &str) -> bool {
-    match told.split_once(' ') {
+fn is_refused(refused: &Refused, content: &str) -> bool {
+    match content.split_once(' ') {
         Some((line, cause)) => {
             line.parse::<u32>().ok() == Some(refused.line)
                 && cause_named(cause) == Some(refused.cause)
@@ -194,18 +194,18 @@ fn is_refused(refused: &Refused, told: &str) -> bool {
 }
 
 /// Whether a file says what a row tells of it.
-fn says(script: &Script, told: &str) -> bool {
+fn says(script: &Script, content: &str) -> bool {
     match &script.refused {
-        Some(refused) => is_refused(refused, told),
-        None => told.parse::<usize>().ok() == Some(count_of(script)),
+        Some(refused) => is_refused(refused, content),
+        None => content.parse::<usize>().ok() == Some(count_of(script)),
     }
 }
 
 fn passes(alloc: Global, row: &str) -> Result<bool, Fail> {
-    let (file, told) = row.split_once(" => ").ok_or("two parts")?;
+    let (file, content) = row.split_once(" => ").ok_or("two parts")?;
     let text = file_of(alloc, file)?;
     let script = script_of(alloc, text.as_slice())?;
-    let good = says(&script, told);
+    let good = says(&script, content);
     drop(script);
     Ok(good)
 }

@@ -1,7 +1,7 @@
 //! How `listen` ended, the status of the program for it, and the line that it leaves.
 
 ghost use Rattle.std.specs.Prelude.{◌≡◌};
-ghost use Rattle.td_out.specs.Told.{Tells};
+ghost use Rattle.td_out.specs.SinkTexts.{GivesText};
 ghost use Rattle.td_listen.specs.Listens.{line_of, status_of};
 
 use td_command::{Ended, report, write_numbered};
@@ -19,7 +19,7 @@ pub enum Listened {
     TooLong,
     /// The file is refused at the line of this number, counted from 1, and why.
     Refused(u32, LineCause),
-    /// Want of memory.
+    /// Out of memory.
     Memory,
     /// The acceptor failed.
     Unaccepted,
@@ -46,7 +46,7 @@ impl Listened {
 
 /// Writes the line for it. Where the sink fails, the rest of the line is lost.
 pub(crate) fn tell<E: Sink>(faults: &mut E, listened: Listened)
-    ensures { Tells (line_of listened) (E.written faults.old) (E.written faults.new)
+    ensures { GivesText (line_of listened) (E.written faults.old) (E.written faults.new)
         (E.faults faults.old) (E.faults faults.new) }
 {
     match listened {

@@ -23,11 +23,11 @@ use td_shared::PastSharedJournal;
 use td_shared_listen::listen_sharing;
 use td_wire::ConnectionPool;
 
-/// The program over the arguments, the files, the network, the clock and the threads of this runtime, and these streams.
-/// It listens where its first word is `listen`, with naming contexts where the second of four words is `names`; it serves
-/// naming contexts over standard input where the first word is `names`, audits or prints a log where that is `audit` or
-/// `log`, and does what `td_command::start` does otherwise. Where its words can't be had for want of memory, that is told
-/// here: they might be had a second time, and `listen` is no word of the others.
+/// The program over the arguments, the files, the network, the clock and the threads of this runtime, and these
+/// streams. It listens where its first word is `listen`, with naming contexts where the second of four words is
+/// `names`; it serves naming contexts over standard input where the first word is `names`, audits or prints a log where
+/// that is `audit` or `log`, and does what `td_command::start` does otherwise. Where its words can't be had when out of
+/// memory, that is told here: they might be had a second time, and `listen` is no word of the others.
 pub fn start<
     R: Env
         + Files

@@ -5,9 +5,9 @@ use Rattle.std.proofs.Crossing.{crosses}
 use Rattle.td_cdr.proofs.boxed.Boxed.TheSendSync as boxed_cross
 use Rattle.td_cdr.proofs.list.List.TheSendSync as list_cross
 use Rattle.td_cdr.proofs.text.Text.TheSendSync as text_cross
-use Rattle.td_codes.proofs.reference.Ior.TheSendSync as ior_cross
+use Rattle.td_typecode.proofs.reference.Ior.TheSendSync as ior_cross
 use Rattle.td_journal.specs.contracts.kept.KeptJournal as kept
-use Rattle.td_reply.specs.contracts.entry.Entry as entry
+use Rattle.td_servant.specs.contracts.entry.Entry as entry
 use Rattle.td_group.proofs.Sends.{any_send, offer_send}
 use Rattle.td_walk.specs.contracts.answer.SubAnswer as sub_answer
 use Rattle.td_walk.specs.contracts.trace.TraceItem as trace_item

@@ -52,8 +52,8 @@ fn a_visitor_describes_what_it_exported(rt: HostRuntime) -> Result<(), Fail> {
     Ok(())
 }
 
-/// Traders in a ring give their offers in order. The same query is a repeat in session 2, which begins only once session
-/// 1 has left.
+/// Traders in a ring give their offers in order. The same query is a repeat in session 2, which begins only once
+/// session 1 has left.
 #[test]
 fn a_ring_is_walked_once_by_two_visitors(rt: HostRuntime) -> Result<(), Fail> {
     let gate = Held::new(2, 2, 1, LOOKS);

@@ -99,7 +99,7 @@ impl<'a> ClientSource for Waiting<'a, MemSource> {
 }
 
 impl<'a> Wire for Waiting<'a, MemWire> {
-    ghost told = { λ w. Some w.inner.traffic };
+    ghost content = { λ w. Some w.inner.traffic };
 
     ghost faults = { λ w. w.inner.calls.faults };
 

@@ -14,7 +14,7 @@ use td_cdr::{List, Memory, Octets, Text};
 use td_journal::KeptJournal;
 use td_listen::serve;
 use td_out::{MemSink, MemSource, MemTexts, MemWords};
-use td_reply::Entry;
+use td_servant::Entry;
 use td_session::End;
 use td_sessions::KeepEnded;
 use td_walk::TraceItem;

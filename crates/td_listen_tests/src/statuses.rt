@@ -56,7 +56,7 @@ fn other_words_are_usage(rt: HostRuntime) -> Result<(), Fail> {
 }
 
 #[test]
-fn a_refused_or_missing_file_is_told(rt: HostRuntime) -> Result<(), Fail> {
+fn a_refused_or_missing_file_is_reported(rt: HostRuntime) -> Result<(), Fail> {
     let alloc = rt.alloc();
     let mut good = stops(&rt, alloc, &["listen", "broken"], 3, b"line 3: words\n");
     good &= stops(&rt, alloc, &["listen", "absent"], 10, b"status 10\n");

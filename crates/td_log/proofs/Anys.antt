@@ -5,16 +5,16 @@ use Rattle.td_cdr.specs.Place.{At}
 use Rattle.td_cdr.specs.Reading.{number_at, cell_at}
 use Rattle.td_cdr.specs.declared.order.Order.TheVariants.{Big}
 use Rattle.td_cdr.specs.declared.value_fault.ValueFault.{ValueFault}
-use Rattle.td_codes.specs.Codes.{code_formats}
-use Rattle.td_codes.specs.Labels.{Layer, ulong_value}
-use Rattle.td_codes.specs.Layers.{code-ulong}
-use Rattle.td_codes.specs.Outermost.{outer}
-use Rattle.td_codes.specs.Values.{anys, left, layer, values, code_values, graph_values}
-use Rattle.td_codes.specs.declared.code.Any.{Any}
-use Rattle.td_codes.specs.declared.code.TypeCode.{TypeCode}
-use Rattle.td_codes.specs.declared.code.TypeCode.TheVariants as code
-use Rattle.td_codes.specs.declared.code.Value.{Value}
-use Rattle.td_codes.specs.declared.code.Value.TheVariants as value
+use Rattle.td_typecode.specs.Codes.{code_formats}
+use Rattle.td_typecode.specs.Labels.{Layer, ulong_value}
+use Rattle.td_typecode.specs.Layers.{code-ulong}
+use Rattle.td_typecode.specs.Outermost.{outer}
+use Rattle.td_typecode.specs.Values.{anys, left, layer, values, code_values, graph_values}
+use Rattle.td_typecode.specs.declared.code.Any.{Any}
+use Rattle.td_typecode.specs.declared.code.TypeCode.{TypeCode}
+use Rattle.td_typecode.specs.declared.code.TypeCode.TheVariants as code
+use Rattle.td_typecode.specs.declared.code.Value.{Value}
+use Rattle.td_typecode.specs.declared.code.Value.TheVariants as value
 use Rattle.td_log.specs.Lines.{alone, any_of, start}
 
 -- behind the TypeCode's octets

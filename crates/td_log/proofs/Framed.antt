@@ -84,8 +84,8 @@ header_in m = record { kind = m.kind; order = m.order; size = length m.bytes.now
 
 module _ {A : Type 0} (kind : ℕ) (g : List ℕ → Header → Option A) (s : Stream) (m : Raw) (limited : s.limit ≡ most)
     (raw : IsRaw s m) where
-  told : header_at most s.rest ≡ Ok (Some (header_in m))
-  told = subst (λ (n : ℕ). header_at n s.rest ≡ Ok (Some (header_in m))) limited raw.header
+  content : header_at most s.rest ≡ Ok (Some (header_in m))
+  content = subst (λ (n : ℕ). header_at n s.rest ≡ Ok (Some (header_in m))) limited raw.header
 
   total : 12 + (length m.bytes.now - 12) ≡ length m.bytes.now
   total = let least = raw.least in omega (arith, least)
@@ -109,7 +109,7 @@ module _ {A : Type 0} (kind : ℕ) (g : List ℕ → Header → Option A) (s : S
       let same : length s.rest ≡ length m.bytes.now = grind (arith, nat_tests, e) in
       let all : s.rest ≡ m.bytes.now =
       sym (raw.bytes ∙ ap (λ (n : ℕ). take n s.rest) (sym same) ∙ take_all (length s.rest) s.rest (omega arith)) in
-      ap (λ (h : Result (Option Header) FrameFault). (whole_in (length s.rest) h >>= kind-test kind) >>= g s.rest) told
+      ap (λ (h : Result (Option Header) FrameFault). (whole_in (length s.rest) h >>= kind-test kind) >>= g s.rest) content
       ∙ ap (λ (n : ℕ). ((cond (nat_eq (length s.rest) n) (Some (header_in m)) None) >>= kind-test kind) >>= g s.rest)
       total
       ∙ ap (λ (b : Bool). ((cond b (Some (header_in m)) None) >>= kind-test kind) >>= g s.rest) e
@@ -117,7 +117,7 @@ module _ {A : Type 0} (kind : ℕ) (g : List ℕ → Header → Option A) (s : S
       ∙ by-kind (nat_eq m.kind kind) refl
       ∙ sym (ap (λ (b : Bool). cond (b && nat_eq m.kind kind) (g m.bytes.now (header_in m)) None) e)
   by-count false e =
-      ap (λ (h : Result (Option Header) FrameFault). (whole_in (length s.rest) h >>= kind-test kind) >>= g s.rest) told
+      ap (λ (h : Result (Option Header) FrameFault). (whole_in (length s.rest) h >>= kind-test kind) >>= g s.rest) content
       ∙ ap (λ (n : ℕ). ((cond (nat_eq (length s.rest) n) (Some (header_in m)) None) >>= kind-test kind) >>= g s.rest)
       total
       ∙ ap (λ (b : Bool). ((cond b (Some (header_in m)) None) >>= kind-test kind) >>= g s.rest) e
@@ -137,7 +137,7 @@ module _ {A : Type 0} (kind : ℕ) (g : List ℕ → Header → Option A) (s : S
       record { header = raw.least; places = omega (arith, cut, e, short) }
 
 -- what was told of one is told of the other
-pub told-as : {A E : Type 0} (r : Result (Option A) E) (x y : Option A) → x ≡ y → IfOk r (λ v. v ≡ x)
+pub content-as : {A E : Type 0} (r : Result (Option A) E) (x y : Option A) → x ≡ y → IfOk r (λ v. v ≡ x)
     → IfOk r (λ v. v ≡ y)
-told-as {A = A} (Ok v) x y e h = h ∙ e
-told-as (Err f) x y e h = tt
+content-as {A = A} (Ok v) x y e h = h ∙ e
+content-as (Err f) x y e h = tt

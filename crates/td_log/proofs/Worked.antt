@@ -3,7 +3,7 @@ use Rattle.std.proofs.Common.{Option, Some, ap, refl}
 use Rattle.std.specs.Option.{option_map}
 use Rattle.std.specs.Prelude.{⊤}
 use Rattle.hex.specs.Hex.{decode_pairs}
-use Rattle.td_codes.specs.declared.code.Any.{Any}
+use Rattle.td_typecode.specs.declared.code.Any.{Any}
 use Rattle.td_cdr.specs.Reading.{cell_at, number_at, octets_at, string_at}
 use Rattle.td_giop.specs.Header.{header_at}
 use Rattle.td_giop.specs.Heads.{reply_at}

@@ -1,8 +1,8 @@
 -- Worked examples: lines of a log, and how a log is cut into them.
 use Rattle.std.specs.Prelude.{◌≡◌, ℕ, List, [], ◌∷◌, ◌++◌, codes, Some, None}
 use Rattle.std.specs.Option.{option_map}
-use Rattle.td_codes.specs.declared.code.TypeCode.TheVariants as code
-use Rattle.td_codes.specs.declared.code.Value.TheVariants as value
+use Rattle.td_typecode.specs.declared.code.TypeCode.TheVariants as code
+use Rattle.td_typecode.specs.declared.code.Value.TheVariants as value
 use Rattle.td_ior.specs.Nil.{nil}
 use Rattle.td_log.specs.Lines.{line_of, words_of}
 use Rattle.td_log.specs.Messages.{octets_of}
@@ -36,13 +36,13 @@ pub record WorkedValues : Type 0 where
   pub more : line_of names (codes "value 2 " ++ seven ++ codes "00") ≡ None
 
 -- a Reply with a system exception whose id is empty
-abbrev pub told : List ℕ
-told = codes "47494f50010000010000001c0000000000000007000000020000000100000000"
+abbrev pub content : List ℕ
+content = codes "47494f50010000010000001c0000000000000007000000020000000100000000"
     ++ codes "0000000000000001"
 
 -- the line of a Reply of call 0 that has no iterator
-abbrev pub answered : (message : List ℕ) → Line
-answered message = Reply 0 (record { bytes = message; iterator = nil })
+abbrev pub answer_line : (message : List ℕ) → Line
+answer_line message = Reply 0 (record { bytes = message; iterator = nil })
 
 pub record WorkedMessages : Type 0 where
   -- no trader has the name
@@ -53,7 +53,8 @@ pub record WorkedMessages : Type 0 where
   pub cut : line_of names (codes "reply 0 47494f50010000010000000200") ≡ None
   -- a whole one whose own header is cut off
   pub head_cut : line_of names (codes "reply 0 47494f50010000010000000100") ≡ None
-  pub whole : line_of names (codes "reply 0 " ++ told) ≡ option_map answered (octets_of told)
+  pub whole : line_of names (codes "reply 0 " ++ content) ≡ option_map answer_line
+      (octets_of content)
 
 pub record WorkedLogs : Type 0 where
   pub empty : lines_of [] ≡ []

@@ -8,8 +8,8 @@ use Rattle.td_cdr.specs.Format.{Read}
 use Rattle.td_cdr.specs.Place.{At}
 use Rattle.td_cdr.specs.declared.order.Order.TheVariants.{Big}
 use Rattle.td_cdr.specs.declared.value_fault.ValueFault.{ValueFault}
-use Rattle.td_codes.specs.Values.{any_value}
-use Rattle.td_codes.specs.declared.code.Any.{Any}
+use Rattle.td_typecode.specs.Values.{any_value}
+use Rattle.td_typecode.specs.declared.code.Any.{Any}
 use Rattle.td_ior.specs.Keys.{◌>>=◌}
 use Rattle.td_ior.specs.Number.{number_of}
 use Rattle.td_ops.specs.Called.{operation_in}
@@ -17,9 +17,9 @@ use Rattle.td_ops.specs.declared.call.Call.{Call}
 use Rattle.td_ops.specs.declared.call.Call.TheVariants as call
 use Rattle.td_ops.specs.declared.operation.Operation.TheVariants.{Query}
 use Rattle.td_log.specs.Keywords.{begin_of}
-use Rattle.td_log.specs.Messages.{octets_of, reply_told, request_told}
+use Rattle.td_log.specs.Messages.{octets_of, parse_reply, parse_request}
 use Rattle.td_log.specs.Words.{is_empty, numbers_of, one_number, three_words, two_words}
-use Rattle.td_log.specs.declared.exchange.Exchange.{Exchange}
+use Rattle.td_log.specs.declared.exchange.LoggedCall.{LoggedCall}
 use Rattle.td_log.specs.declared.keyword.Keyword.{Keyword}
 use Rattle.td_log.specs.declared.keyword.Keyword.TheVariants as keyword
 use Rattle.td_log.specs.declared.line.Line.{Line}
@@ -34,7 +34,7 @@ trader_named names name = position (λ n. bytes_eq n name) names
 -- ---- `change TRADER REQUEST REPLY` and `look TRADER REQUEST REPLY`
 
 -- a call of an object of a trader, with its reply
-abbrev pub exchange : (trader : ℕ) → ReplyForm × Call → Recorded → Exchange
+abbrev pub exchange : (trader : ℕ) → ReplyForm × Call → Recorded → LoggedCall
 exchange trader asked reply = record {
   trader = trader;
   form = asked.0;
@@ -43,16 +43,16 @@ exchange trader asked reply = record {
 }
 
 -- the reply to a call, in hexadecimal digits
-abbrev pub replied_with : (trader : ℕ) → (reply : List ℕ) → ReplyForm × Call → Option Exchange
+abbrev pub replied_with : (trader : ℕ) → (reply : List ℕ) → ReplyForm × Call → Option LoggedCall
 replied_with trader reply asked =
-    option_map (exchange trader asked) (reply_told (operation_in asked.1) reply)
+    option_map (exchange trader asked) (parse_reply (operation_in asked.1) reply)
 
 -- a Request to the trader of this number and name and its reply, in hexadecimal digits
-abbrev pub exchange_with : (trader : ℕ) → (name request reply : List ℕ) → Option Exchange
-exchange_with trader name request reply = request_told name request >>= replied_with trader reply
+abbrev pub exchange_with : (trader : ℕ) → (name request reply : List ℕ) → Option LoggedCall
+exchange_with trader name request reply = parse_request name request >>= replied_with trader reply
 
 -- TRADER REQUEST REPLY
-unfoldable pub exchange_of : (names : List (List ℕ)) → (text : List ℕ) → Option Exchange
+unfoldable pub exchange_of : (names : List (List ℕ)) → (text : List ℕ) → Option LoggedCall
 exchange_of names text = do
   words ← three_words text
   trader ← trader_named names words.0
@@ -68,10 +68,10 @@ abbrev pub look_by : (trader : ℕ) → ReplyForm → Recorded → Call → Opti
 look_by trader form reply (call.Look l) = Some (Look trader form l reply)
 look_by trader form reply other = None
 
-abbrev pub change_in : Exchange → Option Line
+abbrev pub change_in : LoggedCall → Option Line
 change_in e = change_by e.trader e.form e.reply e.call
 
-abbrev pub look_in : Exchange → Option Line
+abbrev pub look_in : LoggedCall → Option Line
 look_in e = look_by e.trader e.form e.reply e.call
 
 -- ---- `ask TRADER REQUEST`
@@ -81,7 +81,7 @@ ask_by trader form (call.Query q) = Some (Ask trader form q)
 ask_by trader form other = None
 
 abbrev pub ask_with : (trader : ℕ) → (name request : List ℕ) → Option Line
-ask_with trader name request = request_told name request >>= λ asked. ask_by trader asked.0 asked.1
+ask_with trader name request = parse_request name request >>= λ asked. ask_by trader asked.0 asked.1
 
 unfoldable pub ask_of : (names : List (List ℕ)) → (text : List ℕ) → Option Line
 ask_of names text = do
@@ -103,11 +103,11 @@ alone (Err f) = None
 unfoldable pub any_of : (octets : List ℕ) → Option Any
 any_of octets = alone (any_value.format.reads (start octets))
 
-abbrev pub any_told : (word : List ℕ) → Option Any
-any_told word = octets_of word >>= any_of
+abbrev pub parse_any : (word : List ℕ) → Option Any
+parse_any word = octets_of word >>= any_of
 
 abbrev pub some_any : (word : List ℕ) → Option (Option Any)
-some_any word = option_map (λ v. Some v) (any_told word)
+some_any word = option_map (λ v. Some v) (parse_any word)
 
 -- a value, or none
 abbrev pub given_value : (word : List ℕ) → Option (Option Any)
@@ -126,7 +126,7 @@ value_of text = do
 
 -- the reply to a query
 abbrev pub reply_with : (number : ℕ) → (reply : List ℕ) → Option Line
-reply_with number reply = option_map (λ r. Reply number r) (reply_told Query reply)
+reply_with number reply = option_map (λ r. Reply number r) (parse_reply Query reply)
 
 unfoldable pub reply_line : (text : List ℕ) → Option Line
 reply_line text = do

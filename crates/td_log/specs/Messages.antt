@@ -6,7 +6,7 @@ use Rattle.std.specs.Str.{bytes_eq}
 use Rattle.hex.specs.Hex.{decode_of}
 use Rattle.td_cdr.specs.Place.{At}
 use Rattle.td_cdr.specs.declared.order.Order.{Order}
-use Rattle.td_codes.specs.declared.reference.Ior.{Ior}
+use Rattle.td_typecode.specs.declared.reference.Ior.{Ior}
 use Rattle.td_giop.specs.Header.{header_at}
 use Rattle.td_giop.specs.Heads.{Request, behind_header, reply_at, request_at}
 use Rattle.td_giop.specs.declared.fault.FrameFault.{FrameFault}
@@ -17,7 +17,7 @@ use Rattle.td_ior.specs.Keys.{◌>>=◌, key_of}
 use Rattle.td_ior.specs.Nil.{nil}
 use Rattle.td_ops.specs.Answers.{answer_of}
 use Rattle.td_ops.specs.Calls.{call_read}
-use Rattle.td_ops.specs.Refusals.{told}
+use Rattle.td_ops.specs.Refusals.{reading_of}
 use Rattle.td_ops.specs.declared.call.Call.{Call}
 use Rattle.td_ops.specs.declared.fault.OpsFault.{OpsFault}
 use Rattle.td_ops.specs.declared.operation.Operation.{Operation}
@@ -69,14 +69,14 @@ abbrev pub form_of : Order → (minor : ℕ) → Request → ReplyForm
 form_of order minor r = record { order = order; version = version_of minor; id = r.id }
 
 -- what was read of a call, whatever follows it
-abbrev pub call_told : Result (Call × At) OpsFault → Option Call
-call_told (Ok c) = Some c.0
-call_told (Err f) = None
+abbrev pub parse_call : Result (Call × At) OpsFault → Option Call
+parse_call (Ok c) = Some c.0
+parse_call (Err f) = None
 
 -- the call of an object of the trader of this name
 abbrev pub call_of_object : (name : List ℕ) → Request → (body : At) → ObjectKey → Option Call
 call_of_object name r body key =
-    if bytes_eq key.trader name then call_told (call_read key.kind r.operation body) else None
+    if bytes_eq key.trader name then parse_call (call_read key.kind r.operation body) else None
 
 -- the same behind a head, and the form of its reply
 abbrev pub request_behind : (name : List ℕ) → Order → (minor : ℕ) → Request → (body : At)
@@ -99,8 +99,8 @@ unfoldable pub request_of : (name message : List ℕ) → Option (ReplyForm × C
 request_of name message = header_of REQUEST message >>= λ h. request_in name h.order h.minor message
 
 -- the same in hexadecimal digits
-abbrev pub request_told : (name digits : List ℕ) → Option (ReplyForm × Call)
-request_told name digits = octets_of digits >>= request_of name
+abbrev pub parse_request : (name digits : List ℕ) → Option (ReplyForm × Call)
+parse_request name digits = octets_of digits >>= request_of name
 
 -- ---- a Reply
 
@@ -115,24 +115,24 @@ iterator_of (Done reply) = iterator_in reply
 iterator_of (User id) = nil
 iterator_of (System id minor completion) = nil
 
-abbrev pub recorded : (message : List ℕ) → Answered → Recorded
-recorded message a = record { bytes = message; iterator = iterator_of a }
+abbrev pub recorded_answer : (message : List ℕ) → Answered → Recorded
+recorded_answer message a = record { bytes = message; iterator = iterator_of a }
 
 -- what was read of an answer, whatever follows it
-abbrev pub answer_told : (message : List ℕ) → Result (Answered × At) OpsFault → Option Recorded
-answer_told message (Ok a) = Some (recorded message a.0)
-answer_told message (Err f) = None
+abbrev pub parse_answer : (message : List ℕ) → Result (Answered × At) OpsFault → Option Recorded
+parse_answer message (Ok a) = Some (recorded_answer message a.0)
+parse_answer message (Err f) = None
 
 -- A Reply of this order to a call of this operation. Anything may follow its body.
 unfoldable pub reply_in : Operation → Order → (message : List ℕ) → Option Recorded
 reply_in operation order message =
     result_ok (reply_at (behind_header order message)) >>= λ r.
-    answer_told message (told ((answer_of operation r.0.status).format.reads r.1))
+    parse_answer message (reading_of ((answer_of operation r.0.status).format.reads r.1))
 
 -- the same of a message by itself
 unfoldable pub reply_of : Operation → (message : List ℕ) → Option Recorded
 reply_of operation message = header_of REPLY message >>= λ h. reply_in operation h.order message
 
 -- the same in hexadecimal digits
-abbrev pub reply_told : Operation → (digits : List ℕ) → Option Recorded
-reply_told operation digits = octets_of digits >>= reply_of operation
+abbrev pub parse_reply : Operation → (digits : List ℕ) → Option Recorded
+parse_reply operation digits = octets_of digits >>= reply_of operation

@@ -4,7 +4,7 @@ ghost use Rattle.std.specs.Prelude.{◌≡◌, ◌<◌, ◌^◌, length, IfOk};
 ghost use Rattle.td_log.specs.Lines.{ask_by, ask_of, ask_with, change_in, exchange_of, exchange_with, look_in};
 ghost use Rattle.td_log.specs.Lines.{replied_with};
 ghost use Rattle.td_log.specs.Lines.{reply_line, reply_with, trader_named};
-ghost use Rattle.td_log.specs.Messages.{reply_told, request_told};
+ghost use Rattle.td_log.specs.Messages.{parse_reply, parse_request};
 ghost use Rattle.td_ops.specs.Called.{operation_in};
 ghost use Rattle.td_ops.specs.declared.operation.Operation.TheVariants as operation;
 
@@ -21,7 +21,7 @@ use td_ops::{Call, Desired, Query};
 
 /// A call of an object of a trader, with its reply.
 #[derive(Drop)]
-pub(crate) struct Exchange {
+pub(crate) struct LoggedCall {
     pub trader: usize,
     pub form: ReplyForm,
     pub call: Boxed<Call>,
@@ -36,13 +36,13 @@ fn trader_named(names: &[Text], name: &[u8]) -> Option<usize>
 }
 
 /// The Request that hexadecimal digits spell.
-fn request_told(
+fn parse_request(
     alloc: Global,
     name: &[u8],
     digits: &[u8],
 ) -> Result<Option<(ReplyForm, Boxed<Call>)>, Memory>
     requires { length digits.now < 2 ^ 32 }
-    ensures { IfOk result (λ r. r ≡ request_told name.now digits.now) }
+    ensures { IfOk result (λ r. r ≡ parse_request name.now digits.now) }
 {
     match octets_of(alloc, digits)? {
         Some(message) => request_of(alloc, name, message.as_slice()),
@@ -51,9 +51,9 @@ fn request_told(
 }
 
 /// The Reply to a call that hexadecimal digits spell.
-fn reply_told(alloc: Global, call: &Call, digits: &[u8]) -> Result<Option<Recorded>, Memory>
+fn parse_reply(alloc: Global, call: &Call, digits: &[u8]) -> Result<Option<Recorded>, Memory>
     requires { length digits.now < 2 ^ 32 }
-    ensures { IfOk result (λ r. r ≡ reply_told (operation_in call.now) digits.now) }
+    ensures { IfOk result (λ r. r ≡ parse_reply (operation_in call.now) digits.now) }
 {
     match octets_of(alloc, digits)? {
         Some(message) => reply_of(alloc, call, message.as_slice()),
@@ -68,12 +68,12 @@ fn exchange_with(
     name: &[u8],
     request: &[u8],
     reply: &[u8],
-) -> Result<Option<Exchange>, Memory>
+) -> Result<Option<LoggedCall>, Memory>
     requires request { length request.now < 2 ^ 32 }
     requires reply { length reply.now < 2 ^ 32 }
     ensures { IfOk result (λ e. e ≡ exchange_with trader name.now request.now reply.now) }
 {
-    match request_told(alloc, name, request)? {
+    match parse_request(alloc, name, request)? {
         Some((form, call)) => replied_with(alloc, trader, form, call, reply),
         None => Ok(None),
     }
@@ -86,12 +86,12 @@ fn replied_with(
     form: ReplyForm,
     call: Boxed<Call>,
     reply: &[u8],
-) -> Result<Option<Exchange>, Memory>
+) -> Result<Option<LoggedCall>, Memory>
     requires { length reply.now < 2 ^ 32 }
     ensures { IfOk result (λ e. e ≡ replied_with trader reply.now (form, call)) }
 {
-    match reply_told(alloc, call.get(), reply)? {
-        Some(reply) => Ok(Some(Exchange {
+    match parse_reply(alloc, call.get(), reply)? {
+        Some(reply) => Ok(Some(LoggedCall {
             trader,
             form,
             call,
@@ -105,13 +105,13 @@ fn replied_with(
 ///
 /// # Errors
 ///
-/// `Memory` for want of memory alone.
+/// `Memory` only when out of memory.
 #[tactic(auto, unfolding(crate::specs::Lines::exchange_of))]
 pub(crate) fn exchange_of(
     alloc: Global,
     names: &[Text],
     text: &[u8],
-) -> Result<Option<Exchange>, Memory>
+) -> Result<Option<LoggedCall>, Memory>
     requires { length text.now < 2 ^ 32 }
     ensures { IfOk result (λ e. e ≡ exchange_of names.now text.now) }
 {
@@ -128,11 +128,11 @@ pub(crate) fn exchange_of(
 ///
 /// # Errors
 ///
-/// `Memory` for want of memory alone.
-pub(crate) fn change_in(alloc: Global, exchange: Exchange) -> Result<Option<Line>, Memory>
+/// `Memory` only when out of memory.
+pub(crate) fn change_in(alloc: Global, exchange: LoggedCall) -> Result<Option<Line>, Memory>
     ensures { IfOk result (λ l. l ≡ change_in exchange) }
 {
-    let Exchange {
+    let LoggedCall {
         trader,
         form,
         call,
@@ -164,11 +164,11 @@ pub(crate) fn change_in(alloc: Global, exchange: Exchange) -> Result<Option<Line
 ///
 /// # Errors
 ///
-/// `Memory` for want of memory alone.
-pub(crate) fn look_in(alloc: Global, exchange: Exchange) -> Result<Option<Line>, Memory>
+/// `Memory` only when out of memory.
+pub(crate) fn look_in(alloc: Global, exchange: LoggedCall) -> Result<Option<Line>, Memory>
     ensures { IfOk result (λ l. l ≡ look_in exchange) }
 {
-    let Exchange {
+    let LoggedCall {
         trader,
         form,
         call,
@@ -221,7 +221,7 @@ fn ask_with(
     requires { length request.now < 2 ^ 32 }
     ensures { IfOk result (λ l. l ≡ ask_with trader name.now request.now) }
 {
-    match request_told(alloc, name, request)? {
+    match parse_request(alloc, name, request)? {
         Some((form, call)) => Ok(ask_by(trader, form, call.into_inner())),
         None => Ok(None),
     }
@@ -231,7 +231,7 @@ fn ask_with(
 ///
 /// # Errors
 ///
-/// `Memory` for want of memory alone.
+/// `Memory` only when out of memory.
 #[tactic(auto, unfolding(crate::specs::Lines::ask_of))]
 pub(crate) fn ask_of(alloc: Global, names: &[Text], text: &[u8]) -> Result<Option<Line>, Memory>
     requires { length text.now < 2 ^ 32 }
@@ -267,7 +267,7 @@ fn reply_with(alloc: Global, call: usize, reply: &[u8]) -> Result<Option<Line>, 
     ensures { IfOk result (λ l. l ≡ reply_with call reply.now) }
 {
     let query = any_query(alloc)?;
-    match reply_told(alloc, &query, reply)? {
+    match parse_reply(alloc, &query, reply)? {
         Some(reply) => Ok(Some(Line::Reply { call, reply })),
         None => Ok(None),
     }
@@ -277,7 +277,7 @@ fn reply_with(alloc: Global, call: usize, reply: &[u8]) -> Result<Option<Line>, 
 ///
 /// # Errors
 ///
-/// `Memory` for want of memory alone.
+/// `Memory` only when out of memory.
 #[tactic(auto, unfolding(crate::specs::Lines::reply_line))]
 pub(crate) fn reply_line(alloc: Global, text: &[u8]) -> Result<Option<Line>, Memory>
     requires { length text.now < 2 ^ 32 }

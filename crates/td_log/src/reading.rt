@@ -29,7 +29,7 @@ use td_cdr::{List, Memory, Text};
 ///
 /// # Errors
 ///
-/// `Memory` for want of memory alone.
+/// `Memory` only when out of memory.
 #[tactic(auto, unfolding(crate::specs::Lines::line_of))]
 pub fn read_line(alloc: Global, names: &[Text], line: &[u8]) -> Result<Option<Line>, Memory>
     requires { length line.now < 2 ^ 32 }
@@ -110,7 +110,7 @@ fn lose_line(text: &[u8]) -> Option<Line>
 ///
 /// # Errors
 ///
-/// `Memory` for want of memory alone.
+/// `Memory` only when out of memory.
 #[tactic(auto, unfolding(crate::specs::Lines::words_of))]
 pub fn read_words(alloc: Global, line: &[u8]) -> Result<Option<List<u64>>, Memory>
     ensures { IfOk result (λ ws. ws ≡ words_of line.now) }

@@ -3,7 +3,8 @@
 ghost use Rattle.std.specs.Prelude.{◌≡◌, ◌<◌, ◌^◌, length, IfOk};
 ghost use Rattle.td_giop.specs.Heads.{IsReadable};
 ghost use Rattle.td_giop.specs.declared.message_type.TheConstants.{REPLY};
-ghost use Rattle.td_log.specs.Messages.{answer_told, if_alone, iterator_in, iterator_of, most, recorded, reply_in};
+ghost use Rattle.td_log.specs.Messages.{parse_answer, if_alone, iterator_in, iterator_of, most, recorded_answer};
+ghost use Rattle.td_log.specs.Messages.{reply_in};
 ghost use Rattle.td_log.specs.Messages.{reply_of};
 ghost use Rattle.td_ops.specs.Answers.{outcome_read};
 ghost use Rattle.td_ops.specs.Called.{operation_in};
@@ -22,7 +23,7 @@ use td_value::Ior;
 ///
 /// # Errors
 ///
-/// `Memory` for want of memory alone.
+/// `Memory` only when out of memory.
 #[tactic(auto, unfolding(crate::specs::Messages::reply_of))]
 pub(crate) fn reply_of(
     alloc: Global,
@@ -95,11 +96,11 @@ fn answer_at(
     body: &Reader,
 ) -> Result<Option<Recorded>, Memory>
     ensures { IfOk result (λ r. r
-        ≡ answer_told message.now (outcome_read call.now status body.now)) }
+        ≡ parse_answer message.now (outcome_read call.now status body.now)) }
 {
     let mut reader = body.copied();
     match read_outcome(alloc, call, status, &mut reader) {
-        Ok(answer) => recorded(alloc, message, answer),
+        Ok(answer) => recorded_answer(alloc, message, answer),
         Err(OpsFault::Memory) => Err(Memory),
         Err(OpsFault::BadOperation) => Ok(None),
         Err(OpsFault::Marshal(_)) => Ok(None),
@@ -108,8 +109,12 @@ fn answer_at(
 }
 
 /// A Reply that tells this.
-fn recorded(alloc: Global, message: &[u8], answer: Answered) -> Result<Option<Recorded>, Memory>
-    ensures { IfOk result (λ r. r ≡ Some (recorded message.now answer)) }
+fn recorded_answer(
+    alloc: Global,
+    message: &[u8],
+    answer: Answered,
+) -> Result<Option<Recorded>, Memory>
+    ensures { IfOk result (λ r. r ≡ Some (recorded_answer message.now answer)) }
 {
     let iterator = iterator_of(alloc, answer);
     let bytes = Octets::from_slice(alloc, message)?;

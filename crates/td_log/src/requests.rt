@@ -3,7 +3,7 @@
 ghost use Rattle.std.specs.Prelude.{◌≡◌, ◌<◌, ◌^◌, [], length, IfOk};
 ghost use Rattle.td_giop.specs.Heads.{IsReadable};
 ghost use Rattle.td_giop.specs.declared.message_type.TheConstants.{REQUEST};
-ghost use Rattle.td_log.specs.Messages.{call_told, if_alone, most, request_behind, request_in, request_of};
+ghost use Rattle.td_log.specs.Messages.{parse_call, if_alone, most, request_behind, request_in, request_of};
 ghost use Rattle.td_log.specs.Messages.{version_of};
 ghost use Rattle.td_ops.specs.Calls.{call_read};
 
@@ -22,7 +22,7 @@ pub(crate) const MOST: u32 = 4294967295;
 ///
 /// # Errors
 ///
-/// `Memory` for want of memory alone.
+/// `Memory` only when out of memory.
 pub(crate) fn framer_over(alloc: Global, message: &[u8]) -> Result<Framer, Memory>
     requires { length message.now < 2 ^ 32 }
     ensures { IfOk result (λ f. f ≡ record { start = 0; rest = message.now; limit = most }) }
@@ -36,7 +36,7 @@ pub(crate) fn framer_over(alloc: Global, message: &[u8]) -> Result<Framer, Memor
 ///
 /// # Errors
 ///
-/// `Memory` for want of memory alone.
+/// `Memory` only when out of memory.
 #[tactic(auto, unfolding(crate::specs::Messages::request_of))]
 pub(crate) fn request_of(
     alloc: Global,
@@ -163,7 +163,7 @@ fn call_at(
     operation: &[u8],
     body: &Reader,
 ) -> Result<Option<Boxed<Call>>, Memory>
-    ensures { IfOk result (λ c. c ≡ call_told (call_read kind.now operation.now body.now)) }
+    ensures { IfOk result (λ c. c ≡ parse_call (call_read kind.now operation.now body.now)) }
 {
     let mut reader = body.copied();
     match read_call(alloc, kind, operation, &mut reader) {

@@ -3,7 +3,7 @@
 ghost use Rattle.std.specs.Prelude.{◌≡◌, ◌<◌, ◌^◌, length, Some, IfOk, IfSome};
 ghost use Rattle.std.specs.Option.{option_map};
 ghost use Rattle.td_cdr.specs.ValueFaults.{is_memory};
-ghost use Rattle.td_log.specs.Lines.{alone, any_of, any_told, given_value, some_any, value_of, value_with};
+ghost use Rattle.td_log.specs.Lines.{alone, any_of, parse_any, given_value, some_any, value_of, value_with};
 ghost use Rattle.td_log.specs.Messages.{octets_of};
 ghost use Rattle.td_log.specs.Words.{is_empty};
 
@@ -19,7 +19,7 @@ use td_value::{Any, ValueFault, read_any};
 ///
 /// # Errors
 ///
-/// `Memory` for want of memory alone.
+/// `Memory` only when out of memory.
 pub(crate) fn octets_of(alloc: Global, digits: &[u8]) -> Result<Option<Octets>, Memory>
     requires { length digits.now < 2 ^ 32 }
     ensures octets { IfOk result (λ o. o ≡ octets_of digits.now) }
@@ -80,9 +80,9 @@ fn is_spent(reader: &Reader) -> bool
 }
 
 /// The value that a word spells in hexadecimal digits.
-fn any_told(alloc: Global, word: &[u8]) -> Result<Option<Boxed<Any>>, Memory>
+fn parse_any(alloc: Global, word: &[u8]) -> Result<Option<Boxed<Any>>, Memory>
     requires { length word.now < 2 ^ 32 }
-    ensures { IfOk result (λ v. v ≡ any_told word.now) }
+    ensures { IfOk result (λ v. v ≡ parse_any word.now) }
 {
     match octets_of(alloc, word)? {
         Some(octets) => any_of(alloc, octets.as_slice()),
@@ -95,7 +95,7 @@ fn some_any(alloc: Global, word: &[u8]) -> Result<Option<Option<Boxed<Any>>>, Me
     requires { length word.now < 2 ^ 32 }
     ensures { IfOk result (λ v. v ≡ some_any word.now) }
 {
-    let value = any_told(alloc, word)?;
+    let value = parse_any(alloc, word)?;
     Ok(some_of(value))
 }
 
@@ -124,7 +124,7 @@ fn given_value(alloc: Global, word: &[u8]) -> Result<Option<Option<Boxed<Any>>>,
 ///
 /// # Errors
 ///
-/// `Memory` for want of memory alone.
+/// `Memory` only when out of memory.
 #[tactic(auto, unfolding(crate::specs::Lines::value_of))]
 pub(crate) fn value_of(alloc: Global, text: &[u8]) -> Result<Option<Line>, Memory>
     requires { length text.now < 2 ^ 32 }

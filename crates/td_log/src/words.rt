@@ -77,7 +77,7 @@ pub(crate) fn one_number(text: &[u8]) -> Option<u64>
 ///
 /// # Errors
 ///
-/// `Memory` for want of memory alone.
+/// `Memory` only when out of memory.
 pub(crate) fn numbers_of(alloc: Global, text: &[u8]) -> Result<Option<List<u64>>, Memory>
     ensures { IfOk result (λ ns. ns ≡ numbers_of text.now) }
 {

@@ -2,8 +2,8 @@
 use Rattle.std.proofs.Common.{ℕ, List, Option, Some, None, arith, length}
 use Rattle.std.specs.List.{AllByRecursion}
 use Rattle.td_cdr.specs.Marks.{Marks}
-use Rattle.td_codes.specs.declared.code.Any.{Any}
-use Rattle.td_codes.specs.declared.reference.Ior.{Ior}
+use Rattle.td_typecode.specs.declared.code.Any.{Any}
+use Rattle.td_typecode.specs.declared.reference.Ior.{Ior}
 use Rattle.td_iter.specs.Heads.{AreLimits}
 use Rattle.td_log_laws.proofs.Keeping.{BeginsSo, Invariant, IsKept}
 use Rattle.td_log_laws.proofs.Lasting.{Quiet}
@@ -22,11 +22,11 @@ use Rattle.td_trader.specs.Beginning.{begin_along, begin_here, begin_of, begin_u
 use Rattle.td_trader.specs.PlainTraders.{PlainTrader, begin_at, store_of}
 use Rattle.td_trader.specs.Queries.{parts_of, path_link, refusal}
 use Rattle.td_trader.specs.Serving.{local_of, path_of}
-use Rattle.td_turns_laws.proofs.Parts.{each-front}
+use Rattle.td_session_runs_laws.proofs.Parts.{each-front}
 use Rattle.td_types.proofs.Sequences.{each-filter}
 use Rattle.td_walk.specs.declared.trace.Visit.{Visit}
 use Rattle.td_walk.specs.declared.trace.Visit.TheVariants as visit
-use Rattle.td_walk_laws.specs.Walks.{answer_in}
+use Rattle.td_query_walk.specs.Walks.{answer_in}
 
 -- the events of a log that is made
 abbrev pub IsMade : Event → Type 0

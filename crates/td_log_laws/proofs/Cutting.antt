@@ -5,7 +5,7 @@ use Rattle.std.proofs.Common.{slice_index}
 use Rattle.std.proofs.lemmas.Bool.{lt-ltb}
 use Rattle.std.proofs.lemmas.List.{length-append, take_at, drop_at, drop-drop}
 use Rattle.std.specs.List.{list_all, position, position_or_len, slice_split}
-use Rattle.td_audit.specs.Making.{lines_told}
+use Rattle.td_audit.specs.Making.{text_of_lines}
 use Rattle.td_ior.specs.Keys.{◌>>=◌}
 use Rattle.td_ior.proofs.Numbers.{and-left, and-right}
 use Rattle.td_log.specs.Words.{cut_word, lines_of, one_word, two_words, without_end}
@@ -133,10 +133,10 @@ split-line (x ∷ line) rest e =
     let later = split-line line rest (and-right (is_other 10 x) (lacks 10 line) e) in
     rw (other, later) refl
 
-split-lines : (lines : List (List ℕ)) → AreLines lines → slice_split is_feed (lines_told lines) ≡ lines ++ [] ∷ []
+split-lines : (lines : List (List ℕ)) → AreLines lines → slice_split is_feed (text_of_lines lines) ≡ lines ++ [] ∷ []
 split-lines [] h = refl
 split-lines (line ∷ lines) h =
-    split-line line (lines_told lines) h.0 ∙ ap (λ (x : List (List ℕ)). line ∷ x) (split-lines lines h.1)
+    split-line line (text_of_lines lines) h.0 ∙ ap (λ (x : List (List ℕ)). line ∷ x) (split-lines lines h.1)
 
 end-left : (lines : List (List ℕ)) → without_end (lines ++ [] ∷ []) ≡ lines
 end-left [] = refl
@@ -144,6 +144,6 @@ end-left (line ∷ []) = refl
 end-left (line ∷ next ∷ lines) = ap (λ (x : List (List ℕ)). line ∷ x) (end-left (next ∷ lines))
 
 -- what was told line by line is cut into these lines
-pub lines-read : (lines : List (List ℕ)) → AreLines lines → lines_of (lines_told lines) ≡ lines
+pub lines-read : (lines : List (List ℕ)) → AreLines lines → lines_of (text_of_lines lines) ≡ lines
 unfolding lines_of
 lines-read lines h = ap without_end (split-lines lines h) ∙ end-left lines

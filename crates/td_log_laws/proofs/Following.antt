@@ -1,8 +1,9 @@
 -- The lines that tell how the calls of an Ask go on are read, and pass.
 use Rattle.std.proofs.Common.{◌≡◌, ℕ, zero, suc, ◌+◌, ◌*◌, ◌^◌, ◌<◌, ◌≤◌, true, List, [], ◌∷◌, ◌++◌, length, Option}
 use Rattle.std.proofs.Common.{None, Some, Ok, refl, sym, subst, arith, length-append}
-use Rattle.td_audit.specs.Auditing.{Audited, Happens, Judged, State, passes, state}
-use Rattle.td_audit.specs.Making.{Follows, Next, ended, goes, innermost, lines_told, next_in, answer_line, deliver_line}
+use Rattle.td_audit.specs.Auditing.{HasVerdict, Happens, AuditsLine, AuditState, passes, state}
+use Rattle.td_audit.specs.Making.{RunsCalls, Next, ended, goes, innermost_call, text_of_lines, next_in, answer_line}
+use Rattle.td_audit.specs.Making.{deliver_line}
 use Rattle.td_audit.specs.Making.{no_value_line}
 use Rattle.td_audit.specs.declared.asked.AskedQuery.{AskedQuery}
 use Rattle.td_audit.specs.declared.verdict.Verdict.{Verdict}
@@ -47,7 +48,7 @@ module _ (home : Address) (names : List (List ℕ)) where
     pub read : line_of names next.line ≡ Some line
     pub feed : lacks 10 next.line ≡ true
     pub writes : EventWrites next.event
-    pub judged : (s t : State) → Happens s next.event s.asked (Ok t) → Judged home names s line (Ok t)
+    pub judged : (s t : AuditState) → Happens s next.event s.asked (Ok t) → AuditsLine home names s line (Ok t)
 
   next-read : (c : ℕ) → c < 2 ^ 64 → (o : Option CallState) (next : Next) → next_in c o ≡ Some next → IsRead next
   next-read c h (Some state.Sent) next e =
@@ -101,8 +102,8 @@ module _ (home : Address) (names : List (List ℕ)) where
     pub stands : Stands root x (n + length lines)
     pub ends : visit_at x.calls root ≡ Some v
     pub passes_on : (rest : List (List ℕ)) (verdict : Verdict)
-        → Audited home names (state x asked) (n + length lines) rest verdict
-        → Audited home names (state w asked) n (lines ++ rest) verdict
+        → HasVerdict home names (state x asked) (n + length lines) rest verdict
+        → HasVerdict home names (state w asked) n (lines ++ rest) verdict
 
   event-stands : (root : ℕ) (w u : World) (n : ℕ) (e : Event) → Stands root w n → EventWrites e
       → Becomes w (step_of w e) u → Stands root u (n + 1)
@@ -113,21 +114,21 @@ module _ (home : Address) (names : List (List ℕ)) where
   }
 
   line-long : (first : List ℕ) (lines : List (List ℕ)) (n : ℕ)
-      → n + length (lines_told (first ∷ lines)) ≡ n + length first + 1 + length (lines_told lines)
-  line-long first lines n = omega (arith, length-append first (10 ∷ lines_told lines))
+      → n + length (text_of_lines (first ∷ lines)) ≡ n + length first + 1 + length (text_of_lines lines)
+  line-long first lines n = omega (arith, length-append first (10 ∷ text_of_lines lines))
 
-  pub follow : (root : ℕ) {w x : World} {lines : List (List ℕ)} {v : Visit} → Follows root w lines v x
-      → (asked : List AskedQuery) (n : ℕ) → Stands root w n → n + length (lines_told lines) < 2 ^ 32
+  pub follow : (root : ℕ) {w x : World} {lines : List (List ℕ)} {v : Visit} → RunsCalls root w lines v x
+      → (asked : List AskedQuery) (n : ℕ) → Stands root w n → n + length (text_of_lines lines) < 2 ^ 32
       → Followed root w asked n lines v x
   follow root (ended {w = w} {v = v} e) asked n h short = record {
     feeds = tt;
     stands = subst (Stands root w) (let same : n ≡ n + 0 = omega arith in same) h;
     ends = e;
-    passes_on = λ rest verdict a. subst (λ (m : ℕ). Audited home names (state w asked) m rest verdict)
+    passes_on = λ rest verdict a. subst (λ (m : ℕ). HasVerdict home names (state w asked) m rest verdict)
         (let same : n + 0 ≡ n = omega arith in same) a;
   }
   follow root (goes {w = w} {u = u} {x = x} {lines = lines} {v = v} next open_yet at accepts more) asked n h short =
-      let c = innermost (length w.calls) w.calls root in
+      let c = innermost_call (length w.calls) w.calls root in
       let there = next-some c (state_at w.calls c) next at in
       let low = within w.calls c there.0 there.1 in
       let few = h.few in
@@ -144,5 +145,5 @@ module _ (home : Address) (names : List (List ℕ)) where
         passes_on = λ rest verdict a. passes read.read
             (read.judged (state w asked) (state u asked) (accepts.accepted, accepts.becomes, refl))
             (later.passes_on rest verdict
-            (subst (λ (m : ℕ). Audited home names (state x asked) m rest verdict) (sym count) a));
+            (subst (λ (m : ℕ). HasVerdict home names (state x asked) m rest verdict) (sym count) a));
       }

@@ -2,19 +2,22 @@
 use Rattle.std.proofs.Common.{ℕ, ◌+◌, ◌≤◌, Bool, true, false, List, [], ◌∷◌, length, slice_get, slice_set, Option, None}
 use Rattle.std.proofs.Common.{Some, sym, subst, arith, length-append}
 use Rattle.std.proofs.lemmas.List.{length-set}
-use Rattle.td_codes.specs.declared.code.Any.{Any}
-use Rattle.td_net.specs.Worlds.{World, Becomes, Taken, Refused, Moved, Closing, answer_at, answer_by, answer_in_stage}
-use Rattle.td_net.specs.Worlds.{ask_at, begun_by, change_at, deliver_at, deliver_in, deliver_to, delivered, delivery_of}
-use Rattle.td_net.specs.Worlds.{hand_on, handed, lose_at, lose_by, opened, placed_by, resumed, resumed_in, sent}
-use Rattle.td_net.specs.Worlds.{step_of, value_at, value_in, waiting, with_begun}
+use Rattle.td_typecode.specs.declared.code.Any.{Any}
+use Rattle.td_net.specs.Worlds.{World, Becomes, EventResult, Refused, Moved, Closing, answer_at, answer_by}
+use Rattle.td_net.specs.Worlds.{answer_in_stage}
+use Rattle.td_net.specs.Worlds.{ask_at, begun_by, change_at, deliver_at, deliver_in, deliver_to, deliver_call}
+use Rattle.td_net.specs.Worlds.{delivery_of}
+use Rattle.td_net.specs.Worlds.{hand_on, hand_answer, lose_at, lose_by, open_call, placed_by, resume_caller, resumed_in}
+use Rattle.td_net.specs.Worlds.{sent}
+use Rattle.td_net.specs.Worlds.{step_of, value_at, value_in, waiting_call, with_begun}
 use Rattle.td_net.specs.declared.call.Call.{Call}
 use Rattle.td_net.specs.declared.call.Stage.{Stage}
 use Rattle.td_net.specs.declared.call.Stage.TheVariants.{Sent, Running, Evaluating, Waiting, Ended}
-use Rattle.td_net.specs.declared.call.Step.{Step}
+use Rattle.td_net.specs.declared.call.QuestionStep.{QuestionStep}
 use Rattle.td_net.specs.declared.event.Event.{Event}
 use Rattle.td_net.specs.declared.event.Event.TheVariants.{Change as Changed, Ask, Deliver, Value, Answer, Lose}
-use Rattle.td_net.specs.declared.settling.Pending.{Pending}
-use Rattle.td_net.specs.declared.settling.Pending.TheVariants as pending
+use Rattle.td_net.specs.declared.advancing.Pending.{Pending}
+use Rattle.td_net.specs.declared.advancing.Pending.TheVariants as pending
 use Rattle.td_ops.specs.declared.call.Change.{Change}
 use Rattle.td_ops.specs.declared.call.Query.{Query}
 use Rattle.td_store.specs.declared.local.Local.{Local}
@@ -25,7 +28,7 @@ use Rattle.td_walk.specs.declared.answer.StepAnswer.{StepAnswer}
 
 module _ (most : ℕ) where
   -- at most so many calls
-  abbrev pub Grows : Taken → Type 0
+  abbrev pub Grows : EventResult → Type 0
   Grows (Refused f) = Unit {0}
   Grows (Moved v) = length v.calls ≤ most
   Grows (Closing v c k l rs ss) = length v.calls ≤ most
@@ -33,12 +36,12 @@ module _ (most : ℕ) where
   set-few : (calls : List Call) (c : ℕ) (k : Call) → length calls ≤ most → length (slice_set calls c k) ≤ most
   set-few calls c k h = omega (arith, h, length-set calls c k)
 
-  placed-grows : (w : World) (c : ℕ) (k : Call) (l : Local) (rs : List StepAnswer) (ss : List Step) (p : Pending)
+  placed-grows : (w : World) (c : ℕ) (k : Call) (l : Local) (rs : List StepAnswer) (ss : List QuestionStep) (p : Pending)
       → length w.calls + 1 ≤ most → Grows (placed_by w c k l rs ss p)
   placed-grows w c k l rs ss pending.Nothing h = omega (arith, h)
   placed-grows w c k l rs ss pending.Value h = set-few w.calls c _ (omega (arith, h))
   placed-grows w c k l rs ss (pending.SubQuery target q) h =
-      let waits = waiting k l rs ss (length w.calls) in
+      let waits = waiting_call k l rs ss (length w.calls) in
       omega (
         arith,
         h,
@@ -56,7 +59,7 @@ module _ (most : ℕ) where
       → Grows (deliver_to w c k t)
   to-grows w c k None h = tt
   to-grows w c k (Some t) h =
-      begun-grows (with_begun w k.target t k.query) c (delivered k (delivery_of w.clock t)) (begin_at t k.query) h
+      begun-grows (with_begun w k.target t k.query) c (deliver_call k (delivery_of w.clock t)) (begin_at t k.query) h
 
   in-grows : (w : World) (c : ℕ) (k : Call) (s : Stage) → length w.calls + 1 ≤ most → Grows (deliver_in w c k s)
   in-grows w c k Sent h = to-grows w c k (slice_get w.traders k.target) h
@@ -73,7 +76,7 @@ module _ (most : ℕ) where
   value-in-grows w c k v (Waiting f e) h = tt
   value-in-grows w c k v (Ended a) h = tt
 
-  resumed-in-grows : (w : World) (p : ℕ) (k : Call) (s : Step) (r : StepAnswer) (stage : Stage)
+  resumed-in-grows : (w : World) (p : ℕ) (k : Call) (s : QuestionStep) (r : StepAnswer) (stage : Stage)
       → length w.calls + 1 ≤ most → Grows (resumed_in w p k s r stage)
   resumed-in-grows w p k s r Sent h = omega (arith, h)
   resumed-in-grows w p k s r Running h = omega (arith, h)
@@ -81,15 +84,15 @@ module _ (most : ℕ) where
   resumed-in-grows w p k s r (Waiting f e) h = placed-grows w p k f.local _ _ _ h
   resumed-in-grows w p k s r (Ended v) h = omega (arith, h)
 
-  resumed-grows : (w : World) (p : ℕ) (s : Step) (r : StepAnswer) (k : Option Call) → length w.calls + 1 ≤ most
-      → Grows (resumed w p s r k)
+  resumed-grows : (w : World) (p : ℕ) (s : QuestionStep) (r : StepAnswer) (k : Option Call) → length w.calls + 1 ≤ most
+      → Grows (resume_caller w p s r k)
   resumed-grows w p s r None h = omega (arith, h)
   resumed-grows w p s r (Some k) h = resumed-in-grows w p k s r k.stage h
 
-  hand-grows : (w : World) (d : ℕ) (k : Call) (p : ℕ) (s : Step) (r : StepAnswer) → length w.calls + 1 ≤ most
+  hand-grows : (w : World) (d : ℕ) (k : Call) (p : ℕ) (s : QuestionStep) (r : StepAnswer) → length w.calls + 1 ≤ most
       → Grows (hand_on w d k p s r)
   hand-grows w d k p s r h =
-      resumed-grows (handed w d k) p s r (slice_get (handed w d k).calls p)
+      resumed-grows (hand_answer w d k) p s r (slice_get (hand_answer w d k).calls p)
       (omega (arith, h, length-set w.calls d (record k { handed = true })))
 
   answer-stage-grows : (w : World) (d : ℕ) (k : Call) (p : ℕ) (s : Stage) → length w.calls + 1 ≤ most
@@ -122,7 +125,7 @@ module _ (most : ℕ) where
   ask-grows w n q None h = tt
   ask-grows w n q (Some t) h =
       let k = sent n q (length w.calls) None in
-      to-grows (opened w k) (length w.calls) k (Some t) (omega (arith, h, length-append w.calls (k ∷ [])))
+      to-grows (open_call w k) (length w.calls) k (Some t) (omega (arith, h, length-append w.calls (k ∷ [])))
 
   deliver-grows : (w : World) (c : ℕ) (k : Option Call) → length w.calls + 1 ≤ most → Grows (deliver_at w c k)
   deliver-grows w c None h = tt
@@ -149,7 +152,7 @@ module _ (most : ℕ) where
   step-grows w (Answer d) h = answer-grows w d (slice_get w.calls d) (omega (arith, h))
   step-grows w (Lose d) h = lose-grows w d (slice_get w.calls d) (omega (arith, h))
 
-  becomes-grows : (w u : World) (t : Taken) → length w.calls ≤ most → Grows t → Becomes w t u
+  becomes-grows : (w u : World) (t : EventResult) → length w.calls ≤ most → Grows t → Becomes w t u
       → length u.calls ≤ most
   becomes-grows w u (Refused f) few h b = subst (λ (z : World). length z.calls ≤ most) (sym b) few
   becomes-grows w u (Moved v) few h b = subst (λ (z : World). length z.calls ≤ most) (sym b) h

@@ -2,24 +2,27 @@
 use Rattle.std.proofs.Common.{◌≡◌, ℕ, zero, suc, ◌+◌, Bool, true, false, List, [], ◌∷◌, ◌++◌, slice_get, slice_set}
 use Rattle.std.proofs.Common.{Option, None, Some, refl, sym, subst, is_some, length}
 use Rattle.std.specs.List.{AllByRecursion}
-use Rattle.td_codes.specs.declared.code.Any.{Any}
-use Rattle.td_codes.specs.declared.reference.Ior.{Ior}
+use Rattle.td_typecode.specs.declared.code.Any.{Any}
+use Rattle.td_typecode.specs.declared.reference.Ior.{Ior}
 use Rattle.td_ior.specs.Profiles.{iiop_of}
 use Rattle.td_net.specs.Supplies.{words_from}
-use Rattle.td_net.specs.Worlds.{World, Becomes, Settled, Taken, Refused, Moved, Closing, answer_at, answer_by}
+use Rattle.td_net.specs.Worlds.{World, Becomes, VisitProgress, EventResult, Refused, Moved, Closing, answer_at}
+use Rattle.td_net.specs.Worlds.{answer_by}
 use Rattle.td_net.specs.Worlds.{answer_in_stage, ask_at, begun_by, change_at, deliver_at, deliver_in, deliver_to}
-use Rattle.td_net.specs.Worlds.{delivered, delivery_of, evaluate_by, forward_by, hand_on, handed, inside, lose_at}
-use Rattle.td_net.specs.Worlds.{lose_by, opened, placed_by, resumed, resumed_in, sent, settle, settle_by, step_of}
-use Rattle.td_net.specs.Worlds.{value_answer, value_at, value_in, with_begun, answered}
+use Rattle.td_net.specs.Worlds.{deliver_call, delivery_of, evaluate_by, forward_by, hand_on, hand_answer, inside}
+use Rattle.td_net.specs.Worlds.{lose_at}
+use Rattle.td_net.specs.Worlds.{lose_by, open_call, placed_by, resume_caller, resumed_in, sent, settle, settle_by}
+use Rattle.td_net.specs.Worlds.{step_of}
+use Rattle.td_net.specs.Worlds.{value_answer, value_at, value_in, with_begun, visit_answer}
 use Rattle.td_net.specs.declared.call.Call.{Call}
 use Rattle.td_net.specs.declared.call.Stage.{Stage}
 use Rattle.td_net.specs.declared.call.Stage.TheVariants.{Sent, Running, Evaluating, Waiting, Ended}
-use Rattle.td_net.specs.declared.call.Step.{Step}
-use Rattle.td_net.specs.declared.call.Step.TheVariants as step
+use Rattle.td_net.specs.declared.call.QuestionStep.{QuestionStep}
+use Rattle.td_net.specs.declared.call.QuestionStep.TheVariants as step
 use Rattle.td_net.specs.declared.event.Event.{Event}
 use Rattle.td_net.specs.declared.event.Event.TheVariants.{Change as Changed, Ask, Deliver, Value, Answer, Lose}
-use Rattle.td_net.specs.declared.settling.Pending.{Pending}
-use Rattle.td_net.specs.declared.settling.Pending.TheVariants as pending
+use Rattle.td_net.specs.declared.advancing.Pending.{Pending}
+use Rattle.td_net.specs.declared.advancing.Pending.TheVariants as pending
 use Rattle.td_ops.specs.Parameters.{query}
 use Rattle.td_ops.specs.declared.call.Change.{Change}
 use Rattle.td_ops.specs.declared.call.Query.{Query}
@@ -27,13 +30,13 @@ use Rattle.td_store.specs.declared.local.Local.{Local}
 use Rattle.td_trader.specs.PlainTraders.{PlainTrader, after_begin, after_change, begin_at}
 use Rattle.td_walk.specs.Answers.{IsAnswer}
 use Rattle.td_walk.specs.declared.answer.SubAnswer.{SubAnswer}
-use Rattle.td_walk_laws.specs.Walks.{nothing, answer_in}
+use Rattle.td_query_walk.specs.Walks.{no_offers, answer_in}
 use Rattle.td_trader.specs.declared.begin.Begin.{Begin}
 use Rattle.td_trader.specs.declared.begin.Begin.TheVariants as begin
 use Rattle.td_trader_laws.proofs.Writing.{begun}
-use Rattle.td_turns_laws.proofs.Parts.{each-at, each-set}
+use Rattle.td_session_runs_laws.proofs.Parts.{each-at, each-set}
 use Rattle.td_types.proofs.Sequences.{each-append}
-use Rattle.td_visit.specs.Standing.{Standing}
+use Rattle.td_visit.specs.Standing.{FrameState}
 use Rattle.td_walk.specs.Visits.{next_of}
 use Rattle.td_walk.specs.declared.answer.Next.{Next}
 use Rattle.td_walk.specs.declared.answer.Next.TheVariants.{Done, Evaluate, Forward}
@@ -41,7 +44,7 @@ use Rattle.td_walk.specs.declared.answer.StepAnswer.{StepAnswer}
 use Rattle.td_walk.specs.declared.answer.StepAnswer.TheVariants as given
 use Rattle.td_walk.specs.declared.trace.Visit.{Visit}
 use Rattle.td_walk.specs.declared.trace.Visit.TheVariants as visit
-use Rattle.td_walk_laws.specs.Reach.{turns_of}
+use Rattle.td_query_walk.specs.Reach.{turns_of}
 
 -- ---- what is to hold
 
@@ -54,7 +57,7 @@ pub record Invariant : Type 1 where
 
 module _ (inv : Invariant) where
   -- a visit that waits
-  pub record FrameHas (f : Standing) : Type 0 where
+  pub record FrameHas (f : FrameState) : Type 0 where
     pub local : inv.local f.local
     pub answers : AllByRecursion inv.step f.answers
 
@@ -75,7 +78,7 @@ module _ (inv : Invariant) where
   -- how a query begins
   abbrev pub BeginsSo : Query → Begin → Type 0
   BeginsSo q (begin.Refused o) = inv.ended q (visit.Refused o)
-  BeginsSo q (begin.Repeat number) = inv.ended q (visit.Answered nothing 0)
+  BeginsSo q (begin.Repeat number) = inv.ended q (visit.Answered no_offers 0)
   BeginsSo q (begin.Search l) = inv.local l
   BeginsSo q (begin.Path l) = inv.local l
 
@@ -89,10 +92,10 @@ pub record IsKept (inv : Invariant) (events : Event → Type 0) : Type 0 where
   pub changed : (n : ℕ) (c : Change) (t : PlainTrader) → inv.trader t → events (Changed n c)
       → inv.trader (after_change t c)
   pub closes : (q : Query) (l : Local) (rs : List StepAnswer) (word : ℕ → ℕ) (a : SubAnswer) → inv.local l
-      → AllByRecursion inv.step rs → IsAnswer l rs word a → inv.ended q (answered l a)
+      → AllByRecursion inv.step rs → IsAnswer l rs word a → inv.ended q (visit_answer l a)
 
 module _ (inv : Invariant) (events : Event → Type 0) (kept : IsKept inv events) where
-  abbrev TakenHas : Taken → Type 0
+  abbrev TakenHas : EventResult → Type 0
   TakenHas (Refused f) = Unit {0}
   TakenHas (Moved v) = WorldHas inv v
   TakenHas (Closing v c k l rs ss) = WorldHas inv v × inv.local l × AllByRecursion inv.step rs
@@ -106,25 +109,25 @@ module _ (inv : Invariant) (events : Event → Type 0) (kept : IsKept inv events
   failed-more : (rs : List StepAnswer) → AllByRecursion inv.step rs → AllByRecursion inv.step (rs ++ given.Failed ∷ [])
   failed-more rs h = each-append inv.step rs (given.Failed ∷ []) h (kept.failed, tt)
 
-  module _ (go : List StepAnswer → List Step → Settled)
-      (later : (rs : List StepAnswer) (ss : List Step) → AllByRecursion inv.step rs → AllByRecursion inv.step (go rs ss).answers) where
-    evaluate-keeps : (rs : List StepAnswer) (ss : List Step) (b : Bool) → AllByRecursion inv.step rs
+  module _ (go : List StepAnswer → List QuestionStep → VisitProgress)
+      (later : (rs : List StepAnswer) (ss : List QuestionStep) → AllByRecursion inv.step rs → AllByRecursion inv.step (go rs ss).answers) where
+    evaluate-keeps : (rs : List StepAnswer) (ss : List QuestionStep) (b : Bool) → AllByRecursion inv.step rs
         → AllByRecursion inv.step (evaluate_by go rs ss b).answers
     evaluate-keeps rs ss true h = h
     evaluate-keeps rs ss false h = later (rs ++ given.Failed ∷ []) (ss ++ step.Unreachable ∷ []) (failed-more rs h)
 
-    forward-keeps : (rs : List StepAnswer) (ss : List Step) (q : Query) (k : Option ℕ) → AllByRecursion inv.step rs
+    forward-keeps : (rs : List StepAnswer) (ss : List QuestionStep) (q : Query) (k : Option ℕ) → AllByRecursion inv.step rs
         → AllByRecursion inv.step (forward_by go rs ss q k).answers
     forward-keeps rs ss q (Some k) h = h
     forward-keeps rs ss q None h = later (rs ++ given.Failed ∷ []) (ss ++ step.Outside ∷ []) (failed-more rs h)
 
-    next-keeps : (at : Ior → Option ℕ) (rs : List StepAnswer) (ss : List Step) (n : Next) → AllByRecursion inv.step rs
+    next-keeps : (at : Ior → Option ℕ) (rs : List StepAnswer) (ss : List QuestionStep) (n : Next) → AllByRecursion inv.step rs
         → AllByRecursion inv.step (settle_by go at rs ss n).answers
     next-keeps at rs ss Done h = h
     next-keeps at rs ss (Evaluate e name returned extra) h = evaluate-keeps rs ss (is_some (iiop_of e)) h
     next-keeps at rs ss (Forward target q) h = forward-keeps rs ss q (at target) h
 
-  settle-keeps : (most : ℕ) (at : Ior → Option ℕ) (l : Local) (rs : List StepAnswer) (ss : List Step)
+  settle-keeps : (most : ℕ) (at : Ior → Option ℕ) (l : Local) (rs : List StepAnswer) (ss : List QuestionStep)
       → AllByRecursion inv.step rs → AllByRecursion inv.step (settle most at l rs ss).answers
   settle-keeps zero at l rs ss h = h
   settle-keeps (suc most) at l rs ss h =
@@ -132,7 +135,7 @@ module _ (inv : Invariant) (events : Event → Type 0) (kept : IsKept inv events
 
   -- ---- where a visit goes on
 
-  placed-keeps : (w : World) (c : ℕ) (k : Call) (l : Local) (rs : List StepAnswer) (ss : List Step) (p : Pending)
+  placed-keeps : (w : World) (c : ℕ) (k : Call) (l : Local) (rs : List StepAnswer) (ss : List QuestionStep) (p : Pending)
       → WorldHas inv w → inv.local l → AllByRecursion inv.step rs → TakenHas (placed_by w c k l rs ss p)
   placed-keeps w c k l rs ss pending.Nothing h local steps = (h, local, steps)
   placed-keeps w c k l rs ss pending.Value h local steps =
@@ -143,7 +146,7 @@ module _ (inv : Invariant) (events : Event → Type 0) (kept : IsKept inv events
         (call-set w c _ h (record { local = local; answers = steps })) (tt, tt);
   }
 
-  goes-keeps : (w : World) (c : ℕ) (k : Call) (l : Local) (rs : List StepAnswer) (ss : List Step) → WorldHas inv w
+  goes-keeps : (w : World) (c : ℕ) (k : Call) (l : Local) (rs : List StepAnswer) (ss : List QuestionStep) → WorldHas inv w
       → inv.local l → AllByRecursion inv.step rs
       → (let s = settle (turns_of l + 1) (inside w.traders w.home) l rs ss in
       TakenHas (placed_by w c k l s.answers s.steps s.pending))
@@ -166,7 +169,7 @@ module _ (inv : Invariant) (events : Event → Type 0) (kept : IsKept inv events
   to-keeps w c k None is h = tt
   to-keeps w c k (Some t) is h =
       let one : inv.trader t = each-at inv.trader w.traders k.target t h.traders is in
-      begun-keeps (with_begun w k.target t k.query) c (delivered k (delivery_of w.clock t)) (begin_at t k.query)
+      begun-keeps (with_begun w k.target t k.query) c (deliver_call k (delivery_of w.clock t)) (begin_at t k.query)
       (record {
         traders = each-set inv.trader w.traders k.target _ h.traders (kept.begun t k.query one);
         calls = h.calls;
@@ -181,7 +184,7 @@ module _ (inv : Invariant) (events : Event → Type 0) (kept : IsKept inv events
 
   -- ---- the answer to a question
 
-  takes-keeps : (w : World) (p : ℕ) (k : Call) (f : Standing) (s : Step) (r : StepAnswer) → WorldHas inv w
+  takes-keeps : (w : World) (p : ℕ) (k : Call) (f : FrameState) (s : QuestionStep) (r : StepAnswer) → WorldHas inv w
       → FrameHas inv f → inv.step r
       → (let t = settle (turns_of f.local + 1) (inside w.traders w.home) f.local (f.answers ++ r ∷ [])
       (k.steps ++ s ∷ []) in TakenHas (placed_by w p k f.local t.answers t.steps t.pending))
@@ -198,7 +201,7 @@ module _ (inv : Invariant) (events : Event → Type 0) (kept : IsKept inv events
   value-in-keeps w c k v (Waiting f e) h stage event = tt
   value-in-keeps w c k v (Ended a) h stage event = tt
 
-  resumed-in-keeps : (w : World) (p : ℕ) (k : Call) (s : Step) (r : StepAnswer) (stage : Stage) → WorldHas inv w
+  resumed-in-keeps : (w : World) (p : ℕ) (k : Call) (s : QuestionStep) (r : StepAnswer) (stage : Stage) → WorldHas inv w
       → StageHas inv k.query stage → inv.step r → TakenHas (resumed_in w p k s r stage)
   resumed-in-keeps w p k s r Sent h stage one = h
   resumed-in-keeps w p k s r Running h stage one = h
@@ -206,16 +209,16 @@ module _ (inv : Invariant) (events : Event → Type 0) (kept : IsKept inv events
   resumed-in-keeps w p k s r (Waiting f e) h stage one = takes-keeps w p k f s r h stage one
   resumed-in-keeps w p k s r (Ended v) h stage one = h
 
-  resumed-keeps : (w : World) (p : ℕ) (s : Step) (r : StepAnswer) (k : Option Call) → slice_get w.calls p ≡ k
-      → WorldHas inv w → inv.step r → TakenHas (resumed w p s r k)
+  resumed-keeps : (w : World) (p : ℕ) (s : QuestionStep) (r : StepAnswer) (k : Option Call) → slice_get w.calls p ≡ k
+      → WorldHas inv w → inv.step r → TakenHas (resume_caller w p s r k)
   resumed-keeps w p s r None is h one = h
   resumed-keeps w p s r (Some k) is h one =
       resumed-in-keeps w p k s r k.stage h (each-at (CallHas inv) w.calls p k h.calls is) one
 
-  hand-keeps : (w : World) (d : ℕ) (k : Call) (p : ℕ) (s : Step) (r : StepAnswer) → WorldHas inv w → CallHas inv k
+  hand-keeps : (w : World) (d : ℕ) (k : Call) (p : ℕ) (s : QuestionStep) (r : StepAnswer) → WorldHas inv w → CallHas inv k
       → inv.step r → TakenHas (hand_on w d k p s r)
   hand-keeps w d k p s r h call one =
-      resumed-keeps (handed w d k) p s r (slice_get (handed w d k).calls p) refl
+      resumed-keeps (hand_answer w d k) p s r (slice_get (hand_answer w d k).calls p) refl
       (record { traders = h.traders; calls = call-set w d _ h call }) one
 
   answer-stage-keeps : (w : World) (d : ℕ) (k : Call) (p : ℕ) (s : Stage) → WorldHas inv w → CallHas inv k
@@ -254,7 +257,7 @@ module _ (inv : Invariant) (events : Event → Type 0) (kept : IsKept inv events
   ask-keeps w n q None is h = tt
   ask-keeps w n q (Some t) is h =
       let k = sent n q (length w.calls) None in
-      to-keeps (opened w k) (length w.calls) k (Some t) is
+      to-keeps (open_call w k) (length w.calls) k (Some t) is
       (record { traders = h.traders; calls = each-append (CallHas inv) w.calls (k ∷ []) h.calls (tt, tt) })
 
   deliver-keeps : (w : World) (c : ℕ) (k : Option Call) → WorldHas inv w → TakenHas (deliver_at w c k)
@@ -287,7 +290,7 @@ module _ (inv : Invariant) (events : Event → Type 0) (kept : IsKept inv events
   step-keeps w (Answer d) h event = answer-at-keeps w d (slice_get w.calls d) refl h
   step-keeps w (Lose d) h event = lose-keeps w d (slice_get w.calls d) refl h
 
-  becomes-keeps : (w u : World) (t : Taken) → WorldHas inv w → TakenHas t → Becomes w t u → WorldHas inv u
+  becomes-keeps : (w u : World) (t : EventResult) → WorldHas inv w → TakenHas t → Becomes w t u → WorldHas inv u
   becomes-keeps w u (Refused f) all h b = subst (WorldHas inv) (sym b) all
   becomes-keeps w u (Moved v) all h b = subst (WorldHas inv) (sym b) h
   becomes-keeps w u (Closing v c k l rs ss) all h b =

@@ -5,27 +5,30 @@ use Rattle.std.proofs.Common.{length, slice_get, slice_set, Option, None, Some, 
 use Rattle.std.proofs.Common.{◌∙◌, arith, unwrap_or, nat_lt, length-append}
 use Rattle.std.proofs.lemmas.Bool.Decides.{nat_tests}
 use Rattle.std.specs.List.{AllByRecursion}
-use Rattle.td_codes.specs.declared.code.Any.{Any}
-use Rattle.td_codes.specs.declared.reference.Ior.{Ior}
+use Rattle.td_typecode.specs.declared.code.Any.{Any}
+use Rattle.td_typecode.specs.declared.reference.Ior.{Ior}
 use Rattle.td_cdr.specs.Marks.{Marks}
 use Rattle.td_changes.specs.declared.bounds.Bounds.{Bounds}
 use Rattle.td_log_laws.proofs.Plain.{AsksLinks, next-links}
-use Rattle.td_log_laws.specs.Short.{ArePlain, IsPlain, IsSparse, SparseTrader}
-use Rattle.td_net.specs.Worlds.{waiting, World, Becomes, Settled, Taken, Refused, Moved, Closing, answer_at, answer_by}
-use Rattle.td_net.specs.Worlds.{answer_in_stage, ask_at, begun_by, deliver_at, deliver_in, deliver_to, delivered}
-use Rattle.td_net.specs.Worlds.{delivery_of, forward_by, handed, inside, opened, placed_by, resumed, resumed_in, sent}
-use Rattle.td_net.specs.Worlds.{settle, settle_by, step_of, value_at, value_in, with_begun, answered, ending, fault_in}
+use Rattle.td_log_laws.specs.Short.{ArePlain, IsStaticOffer, IsSparse, SparseTrader}
+use Rattle.td_net.specs.Worlds.{waiting_call, World, Becomes, VisitProgress, EventResult, Refused, Moved, Closing}
+use Rattle.td_net.specs.Worlds.{answer_at, answer_by}
+use Rattle.td_net.specs.Worlds.{answer_in_stage, ask_at, begun_by, deliver_at, deliver_in, deliver_to, deliver_call}
+use Rattle.td_net.specs.Worlds.{delivery_of, forward_by, hand_answer, inside, open_call, placed_by, resume_caller}
+use Rattle.td_net.specs.Worlds.{resumed_in, sent}
+use Rattle.td_net.specs.Worlds.{settle, settle_by, step_of, value_at, value_in, with_begun, visit_answer, ended_call}
+use Rattle.td_net.specs.Worlds.{fault_in}
 use Rattle.td_net.specs.Worlds.{fault_of}
 use Rattle.td_net_laws.proofs.Places.{get-last}
 use Rattle.td_net.specs.declared.call.Call.{Call}
 use Rattle.td_net.specs.declared.call.Stage.{Stage}
 use Rattle.td_net.specs.declared.call.Stage.TheVariants.{Sent, Running, Evaluating, Waiting, Ended}
-use Rattle.td_net.specs.declared.call.Step.{Step}
-use Rattle.td_net.specs.declared.call.Step.TheVariants as step
+use Rattle.td_net.specs.declared.call.QuestionStep.{QuestionStep}
+use Rattle.td_net.specs.declared.call.QuestionStep.TheVariants as step
 use Rattle.td_net.specs.declared.event.Event.{Event}
 use Rattle.td_net.specs.declared.event.Event.TheVariants.{Change as Changed, Ask, Deliver, Value, Answer, Lose}
-use Rattle.td_net.specs.declared.settling.Pending.{Pending}
-use Rattle.td_net.specs.declared.settling.Pending.TheVariants as pending
+use Rattle.td_net.specs.declared.advancing.Pending.{Pending}
+use Rattle.td_net.specs.declared.advancing.Pending.TheVariants as pending
 use Rattle.td_ops.specs.declared.call.Query.{Query}
 use Rattle.td_ops.specs.declared.outcome.Outcome.{Outcome}
 use Rattle.td_policy.specs.Stated.{stated}
@@ -37,15 +40,15 @@ use Rattle.td_store.specs.Candidates.{is_candidate}
 use Rattle.td_store.specs.declared.local.Local.{Local}
 use Rattle.td_store.specs.declared.record.LinkRecord.{LinkRecord}
 use Rattle.td_trader.proofs.Taken.{taken_are_read}
-use Rattle.td_trader.specs.Beginning.{IsRefused, begin_along, begin_here, begin_of, begin_unless, repeated_in}
+use Rattle.td_trader.specs.Beginning.{IsRefusedQuery, begin_along, begin_here, begin_of, begin_unless, repeated_in}
 use Rattle.td_trader.specs.PlainTraders.{PlainTrader, begin_at, store_of}
 use Rattle.td_trader.specs.Queries.{parts_of, path_link, refusal}
 use Rattle.td_trader.specs.Serving.{local_of}
 use Rattle.td_trader.specs.declared.begin.Begin.{Begin}
 use Rattle.td_trader.specs.declared.begin.Begin.TheVariants as begin
-use Rattle.td_turns_laws.proofs.Parts.{each-at, each-front, each-set}
+use Rattle.td_session_runs_laws.proofs.Parts.{each-at, each-front, each-set}
 use Rattle.td_types.proofs.Sequences.{each-append, each-filter}
-use Rattle.td_visit.specs.Standing.{Standing}
+use Rattle.td_visit.specs.Standing.{FrameState}
 use Rattle.td_walk.specs.SubQueries.{has_hops, link_query}
 use Rattle.td_walk.specs.Visits.{next_of}
 use Rattle.td_walk.specs.declared.answer.Next.{Next}
@@ -54,9 +57,9 @@ use Rattle.td_walk.specs.declared.answer.StepAnswer.{StepAnswer}
 use Rattle.td_walk.specs.declared.answer.StepAnswer.TheVariants as given
 use Rattle.td_walk.specs.declared.trace.Visit.{Visit}
 use Rattle.td_walk.specs.declared.trace.Visit.TheVariants as visit
-use Rattle.td_walk_laws.proofs.Passed.{over_a_link}
-use Rattle.td_walk_laws.specs.Reach.{turns_of}
-use Rattle.td_walk_laws.specs.Walks.{answer_in, nothing}
+use Rattle.td_query_walk.proofs.Passed.{over_a_link}
+use Rattle.td_query_walk.specs.Reach.{turns_of}
+use Rattle.td_query_walk.specs.Walks.{answer_in, no_offers}
 
 -- ---- weights: how many events may come of a call
 
@@ -79,7 +82,7 @@ hops_by (Err f) = 0
 abbrev pub hops_in : Query → ℕ
 hops_in q = hops_by (stated q.policies)
 
-abbrev unhanded : (handed : Bool) → ℕ
+abbrev unhanded : (was_handed : Bool) → ℕ
 unhanded true = 0
 unhanded false = 1
 
@@ -88,10 +91,10 @@ abbrev pub each_of : (hops : ℕ) → ℕ
 each_of zero = 0
 each_of (suc h) = sent_weight h
 
-abbrev frame_weight : Standing → ℕ
+abbrev frame_weight : FrameState → ℕ
 frame_weight f = left_weight (suc (length f.answers)) (each_of f.local.effective.hops)
 
-abbrev stage_weight : Query → (handed : Bool) → Stage → ℕ
+abbrev stage_weight : Query → (was_handed : Bool) → Stage → ℕ
 stage_weight q h Sent = sent_weight (hops_in q)
 stage_weight q h Running = unhanded h
 stage_weight q h (Evaluating f) = unhanded h
@@ -171,7 +174,7 @@ pub record SparseLocal (l : Local) : Type 0 where
 
 -- some trader refused the query so
 abbrev pub RefusedSo : Query → Outcome → Type 0
-RefusedSo q o = (bounds : Bounds) × (s : Store) × (m : Marks) × IsRefused bounds s m q o
+RefusedSo q o = (bounds : Bounds) × (s : Store) × (m : Marks) × IsRefusedQuery bounds s m q o
 
 -- what a query has ended with
 abbrev pub EndedSo : Query → Visit → Type 0
@@ -222,13 +225,13 @@ Asks l rs (pending.SubQuery target q) =
     (length l.links ≤ length rs → ⊥) × ((link : LinkRecord) × (wanted : Option ℕ) × (q ≡ link_query l wanted link)
     × (has_hops l ≡ true))
 
-record Stays (l : Local) (n : ℕ) (s : Settled) : Type 0 where
+record Stays (l : Local) (n : ℕ) (s : VisitProgress) : Type 0 where
   longer : n ≤ length s.answers
   asks : Asks l s.answers s.pending
 
-module _ (l : Local) (at : Ior → Option ℕ) (go : List StepAnswer → List Step → Settled)
-    (later : (rs : List StepAnswer) (ss : List Step) → Stays l (length rs) (go rs ss)) where
-  forward-stays : (rs : List StepAnswer) (ss : List Step) (target : Ior) (q : Query)
+module _ (l : Local) (at : Ior → Option ℕ) (go : List StepAnswer → List QuestionStep → VisitProgress)
+    (later : (rs : List StepAnswer) (ss : List QuestionStep) → Stays l (length rs) (go rs ss)) where
+  forward-stays : (rs : List StepAnswer) (ss : List QuestionStep) (target : Ior) (q : Query)
       → AsksLinks l (length l.links ≤ length rs) (Forward target q) → (k : Option ℕ)
       → Stays l (length rs) (forward_by go rs ss q k)
   forward-stays rs ss target q h (Some k) = record { longer = omega arith; asks = h }
@@ -238,13 +241,13 @@ module _ (l : Local) (at : Ior → Option ℕ) (go : List StepAnswer → List St
       let long = on.longer in
       record { longer = omega (arith, long, length-append rs (given.Failed ∷ [])); asks = on.asks }
 
-  next-stays : (rs : List StepAnswer) (ss : List Step) (n : Next) → AsksLinks l (length l.links ≤ length rs) n
+  next-stays : (rs : List StepAnswer) (ss : List QuestionStep) (n : Next) → AsksLinks l (length l.links ≤ length rs) n
       → Stays l (length rs) (settle_by go at rs ss n)
   next-stays rs ss Done h = record { longer = omega arith; asks = tt }
   next-stays rs ss (Evaluate e name returned extra) h = absurd h
   next-stays rs ss (Forward target q) h = forward-stays rs ss target q h (at target)
 
-settle-stays : (l : Local) → SparseLocal l → (most : ℕ) (at : Ior → Option ℕ) (rs : List StepAnswer) (ss : List Step)
+settle-stays : (l : Local) → SparseLocal l → (most : ℕ) (at : Ior → Option ℕ) (rs : List StepAnswer) (ss : List QuestionStep)
     → Stays l (length rs) (settle most at l rs ss)
 settle-stays l h zero at rs ss = record { longer = omega arith; asks = tt }
 settle-stays l h (suc most) at rs ss =
@@ -263,7 +266,7 @@ Quiet (Lose c) = ⊥
 -- ---- what an event leaves
 
 -- so few events may still come
-abbrev pub Lasts : (most : ℕ) → Taken → Type 0
+abbrev pub Lasts : (most : ℕ) → EventResult → Type 0
 Lasts most (Refused f) = Unit {0}
 Lasts most (Moved v) = SparseWorld v × (total v.calls + 1 ≤ most)
 Lasts most (Closing v c k l rs ss) =
@@ -282,14 +285,14 @@ module _ (most : ℕ) where
       → AllByRecursion SparseCall (slice_set w.calls c k)
   call-set w c k h p = each-set SparseCall w.calls c k h.calls p
 
-  placed-lasts : (w : World) (c : ℕ) (k : Call) (l : Local) (n : ℕ) (rs : List StepAnswer) (ss : List Step)
+  placed-lasts : (w : World) (c : ℕ) (k : Call) (l : Local) (n : ℕ) (rs : List StepAnswer) (ss : List QuestionStep)
       (p : Pending) → SparseWorld w → Room w c k l n most → n ≤ length rs → Asks l rs p
       → Lasts most (placed_by w c k l rs ss p)
   placed-lasts w c k l n rs ss pending.Nothing h room long asks =
       (h, (room.old, room.is, (let r = room.room in omega (arith, r))))
   placed-lasts w c k l n rs ss pending.Value h room long asks = absurd asks
   placed-lasts w c k l n rs ss (pending.SubQuery target q) h room long asks =
-      let waits : Call = waiting k l rs ss (length w.calls) in
+      let waits : Call = waiting_call k l rs ss (length w.calls) in
       let sub : Call = sent target q k.root (Some c) in
       let each = each_of l.effective.hops in
       let set = total-set w.calls c room.old waits room.is in
@@ -319,7 +322,7 @@ module _ (most : ℕ) where
         by true e = grind (arith, nat_tests, e)
         by false e = absurd (more (let two : length l.links ≤ n = grind (arith, nat_tests, e, few) in two))
 
-  goes-lasts : (w : World) (c : ℕ) (k : Call) (l : Local) (rs : List StepAnswer) (ss : List Step) → SparseWorld w
+  goes-lasts : (w : World) (c : ℕ) (k : Call) (l : Local) (rs : List StepAnswer) (ss : List QuestionStep) → SparseWorld w
       → Room w c k l (length rs) most
       → (let s = settle (turns_of l + 1) (inside w.traders w.home) l rs ss in
       Lasts most (placed_by w c k l s.answers s.steps s.pending))
@@ -341,9 +344,9 @@ module _ (most : ℕ) where
     effective-few : min (unwrap_or (parts_of q).stated.hops s.attributes.def_hop_count) s.attributes.max_hop_count
         ≤ hops_in q
     effective-few =
-        let told : hops_in q ≡ unwrap_or (parts_of q).stated.hops 5 = ap hops_by read in
+        let content : hops_in q ≡ unwrap_or (parts_of q).stated.hops 5 = ap hops_by read in
         let least = by (parts_of q).stated.hops in
-        omega (arith, told, least)
+        omega (arith, content, least)
       where
         by : (o : Option ℕ) → unwrap_or o s.attributes.def_hop_count ≤ unwrap_or o 5
         by (Some n) = omega arith
@@ -352,7 +355,7 @@ module _ (most : ℕ) where
     candidates-plain : ArePlain (local_of s point (m.count + 1) [] q).candidates
     unfolding local_of
     candidates-plain =
-        each-front IsPlain _ _ (each-filter IsPlain
+        each-front IsStaticOffer _ _ (each-filter IsStaticOffer
         (is_candidate s.types.types s.attributes (parts_of q).stated q.service_type) s.offers h.offers)
 
     here-sparse : (found : Option ℕ) → BeginsSparsely q (begin_here s point m q found)
@@ -361,7 +364,7 @@ module _ (most : ℕ) where
     here-sparse None = (
       record {
         path = refl;
-        candidates = each-front IsPlain _ _ (each-filter IsPlain
+        candidates = each-front IsStaticOffer _ _ (each-filter IsStaticOffer
             (is_candidate s.types.types s.attributes (parts_of q).stated q.service_type) s.offers h.offers);
         links = h.links;
       },
@@ -379,7 +382,7 @@ module _ (most : ℕ) where
   unless-sparse : (s : Store) (point : ℕ) (m : Marks) (q : Query) (bounds : Bounds) → IsSparse s → NoStart q
       → (cause : Cause) → refusal bounds m.count s q ≡ cause → BeginsSparsely q (begin_unless cause s point m q)
   unless-sparse s point m q bounds h starts (Some f) e =
-      (bounds, s, m, record { cause = f; first = e; told = refl })
+      (bounds, s, m, record { cause = f; first = e; content = refl })
   unless-sparse s point m q bounds h starts None e =
       let read = taken_are_read bounds m.count s q e in
       along-sparse s point m q h starts read (path_link s.links (parts_of q).stated) (no-path s point m q h starts read)
@@ -391,13 +394,13 @@ module _ (most : ℕ) where
       (refusal t.bounds t.marks.count (store_of t) q) refl
 
   -- a search has room where a query had
-  search-room : (all old : ℕ) (handed : Bool) (l : Local) (hops : ℕ) → l.effective.hops ≤ hops
+  search-room : (all old : ℕ) (was_handed : Bool) (l : Local) (hops : ℕ) → l.effective.hops ≤ hops
       → all + sent_weight hops ≤ most + old
-      → all + 1 + unhanded handed + left_weight 0 (each_of l.effective.hops) ≤ most + old
-  search-room all old handed l hops few room =
+      → all + 1 + unhanded was_handed + left_weight 0 (each_of l.effective.hops) ≤ most + old
+  search-room all old was_handed l hops few room =
       let up = sent-grows l.effective.hops hops few in
       let asks = left-sent l.effective.hops in
-      let hand = unhanded-few handed in
+      let hand = unhanded-few was_handed in
       omega (arith, up, asks, hand, room)
 
   -- a call is there whose events to come leave room for those of a query that begins
@@ -411,7 +414,7 @@ module _ (most : ℕ) where
       let least = sent-least (hops_in k.query) in
       (record { traders = h.traders; calls = call-set w c ends h b }, omega (arith, set, hand, least, room))
   begun-lasts w c k old (begin.Repeat number) h is room b =
-      let ends : Call = record k { stage = Ended (visit.Answered nothing 0); drawn = w.drawn } in
+      let ends : Call = record k { stage = Ended (visit.Answered no_offers 0); drawn = w.drawn } in
       let set = total-set w.calls c old ends is in
       let hand = unhanded-few k.handed in
       let least = sent-least (hops_in k.query) in
@@ -432,7 +435,7 @@ module _ (most : ℕ) where
   to-lasts w c k None at h is starts room = tt
   to-lasts w c k (Some t) at h is starts room =
       let one : SparseTrader t = each-at SparseTrader w.traders k.target t h.traders at in
-      begun-lasts (with_begun w k.target t k.query) c (delivered k (delivery_of w.clock t)) k (begin_at t k.query)
+      begun-lasts (with_begun w k.target t k.query) c (deliver_call k (delivery_of w.clock t)) k (begin_at t k.query)
       (record { traders = each-set SparseTrader w.traders k.target _ h.traders one; calls = h.calls }) is room
       (begins-sparse t k.query one starts)
 
@@ -456,7 +459,7 @@ module _ (most : ℕ) where
   value-in-lasts w c k v (Waiting f e) sparse = tt
   value-in-lasts w c k v (Ended a) sparse = tt
 
-  resumed-in-lasts : (w : World) (p : ℕ) (k : Call) (s : Step) (r : StepAnswer) (stage : Stage) → k.stage ≡ stage
+  resumed-in-lasts : (w : World) (p : ℕ) (k : Call) (s : QuestionStep) (r : StepAnswer) (stage : Stage) → k.stage ≡ stage
       → SparseWorld w → slice_get w.calls p ≡ Some k → SparseStage k.query stage → total w.calls + 1 ≤ most
       → Lasts most (resumed_in w p k s r stage)
   resumed-in-lasts w p k s r Sent at h is sparse few = (h, few)
@@ -472,8 +475,8 @@ module _ (most : ℕ) where
       (record { old = k; is = is; local = sparse; room = omega (arith, same, left, few) })
   resumed-in-lasts w p k s r (Ended v) at h is sparse few = (h, few)
 
-  resumed-lasts : (w : World) (p : ℕ) (s : Step) (r : StepAnswer) (k : Option Call) → slice_get w.calls p ≡ k
-      → SparseWorld w → total w.calls + 1 ≤ most → Lasts most (resumed w p s r k)
+  resumed-lasts : (w : World) (p : ℕ) (s : QuestionStep) (r : StepAnswer) (k : Option Call) → slice_get w.calls p ≡ k
+      → SparseWorld w → total w.calls + 1 ≤ most → Lasts most (resume_caller w p s r k)
   resumed-lasts w p s r None is h few = (h, few)
   resumed-lasts w p s r (Some k) is h few =
       resumed-in-lasts w p k s r k.stage refl h is (each-at SparseCall w.calls p k h.calls is) few
@@ -490,7 +493,7 @@ module _ (most : ℕ) where
       let set = total-set w.calls d k done is in
       let before : weight k ≡ 1 = ap (stage_weight k.query k.handed) at ∙ ap unhanded yet in
       let after : weight done ≡ 0 = ap (stage_weight k.query true) at in
-      resumed-lasts (handed w d k) p (step.Given d) (given.Offers (answer_in v)) (slice_get (handed w d k).calls p) refl
+      resumed-lasts (hand_answer w d k) p (step.Given d) (given.Offers (answer_in v)) (slice_get (hand_answer w d k).calls p) refl
       (record {
         traders = h.traders;
         calls = call-set w d done h (each-at SparseCall w.calls d k h.calls is);
@@ -530,13 +533,13 @@ module _ (most : ℕ) where
   step-lasts w (Answer d) quiet h few = answer-lasts w d (slice_get w.calls d) refl h few
   step-lasts w (Lose d) quiet h few = absurd quiet
 
-  becomes-lasts : (w u : World) (t : Taken) → fault_in t ≡ None → Lasts most t → Becomes w t u
+  becomes-lasts : (w u : World) (t : EventResult) → fault_in t ≡ None → Lasts most t → Becomes w t u
       → SparseWorld u × (total u.calls + 1 ≤ most)
   becomes-lasts w u (Refused f) ok h b = absurd cc
   becomes-lasts w u (Moved v) ok h b =
       subst (λ (z : World). SparseWorld z × (total z.calls + 1 ≤ most)) (sym b) h
   becomes-lasts w u (Closing v c k l rs ss) ok h b =
-      let ends : Call = ending k ss v.drawn (answered l b.0) in
+      let ends : Call = ended_call k ss v.drawn (visit_answer l b.0) in
       let set = total-set v.calls c h.1.0 ends h.1.1 in
       let room = h.1.2 in
       subst (λ (z : World). SparseWorld z × (total z.calls + 1 ≤ most)) (sym b.2)
@@ -555,7 +558,7 @@ ask-lasts : (w : World) (n : ℕ) (q : Query) (t : Option PlainTrader) → slice
 ask-lasts w n q None at h starts = tt
 ask-lasts w n q (Some t) at h starts =
     let k = sent n q (length w.calls) None in
-    to-lasts (total w.calls + sent_weight (hops_in q)) (opened w k) (length w.calls) k (Some t) at
+    to-lasts (total w.calls + sent_weight (hops_in q)) (open_call w k) (length w.calls) k (Some t) at
     (record { traders = h.traders; calls = each-append SparseCall w.calls (k ∷ []) h.calls (starts, tt) })
     (get-last w.calls k) starts (let more = total-more w.calls k in omega (arith, more))
 

@@ -9,11 +9,13 @@ use Rattle.std.specs.List.{AllByRecursion, IsDistinct, position_or_len}
 use Rattle.std.specs.Str.{bytes_eq}
 use Rattle.hex.proofs.HexLemmas.{length-encode_with}
 use Rattle.hex.specs.Hex.{encode_lower, lower_digits}
-use Rattle.td_audit.specs.Auditing.{Audited, AuditedFrom, Audits, AuditsOrWants, EndedIn, Opening, RepliedIn, State}
+use Rattle.td_audit.specs.Auditing.{HasVerdict, AuditedFrom, Audits, AuditsOrWants, EndedIn, LogHead, RepliedIn}
+use Rattle.td_audit.specs.Auditing.{AuditState}
 use Rattle.td_audit.specs.Auditing.{asked_as, asked_of, names_of, opening_by, opening_of, over, passes, state}
-use Rattle.td_audit.specs.Making.{Answers, AsksAll, ask_line, form, lines_told, more, none, passes as passed_over}
+use Rattle.td_audit.specs.Making.{IsOutcomeOfVisit, QueriesTraders, ask_line, form, text_of_lines, more, none}
+use Rattle.td_audit.specs.Making.{passes as passed_over}
 use Rattle.td_audit.specs.Making.{reply_line, request_to}
-use Rattle.td_audit.specs.Replies.{spelled}
+use Rattle.td_audit.specs.Replies.{spelled_reply}
 use Rattle.td_audit.specs.declared.asked.AskedQuery.{AskedQuery}
 use Rattle.td_audit.specs.declared.verdict.Verdict.{Verdict}
 use Rattle.td_audit.specs.declared.verdict.Verdict.TheVariants as verdict
@@ -22,7 +24,7 @@ use Rattle.td_audit_laws.proofs.Walks.{ended-call}
 use Rattle.td_audit_laws.specs.Laws.{VerdictsAreOne}
 use Rattle.td_drill.specs.Drills.{drill_query}
 use Rattle.td_log.specs.Lines.{trader_named}
-use Rattle.td_log.specs.Messages.{recorded}
+use Rattle.td_log.specs.Messages.{recorded_answer}
 use Rattle.td_log.specs.Words.{lines_of}
 use Rattle.td_log.specs.declared.message.Recorded.{Recorded}
 use Rattle.td_log_laws.proofs.Cutting.{AreLines, lines-append, lines-read}
@@ -30,22 +32,22 @@ use Rattle.td_log_laws.proofs.Following.{Stands, follow}
 use Rattle.td_log_laws.proofs.Given.{AdmitsVisit, reply-right, reply-written}
 use Rattle.td_log_laws.proofs.Growing.{two-more}
 use Rattle.td_log_laws.proofs.Readings.{ask-feed, ask-no-words, ask-read, reply-feed, reply-read}
-use Rattle.td_log_laws.proofs.Whole.{query-admitted, reply-told, request-told}
+use Rattle.td_log_laws.proofs.Whole.{query-admitted, reply-content, request-content}
 use Rattle.td_log_laws.proofs.Writing.{CallWrites, EndedWrites, StageWrites, WorldWrites, event-writes}
 use Rattle.td_log_laws.specs.Made.{MadeLogsAreRight, MadeLogsPass}
 use Rattle.td_net.specs.Worlds.{World, visit_at}
 use Rattle.td_net.specs.declared.event.Event.TheVariants as event
 use Rattle.td_objects.specs.References.{IsAddress}
 use Rattle.td_cdr.specs.Names.{IsTraderName}
-use Rattle.td_ops.specs.Answers.{AdmitsOutcome, answered}
+use Rattle.td_ops.specs.Answers.{AdmitsOutcome, client_answer}
 use Rattle.td_ops.specs.declared.operation.Operation.TheVariants as operation
 use Rattle.td_ops.specs.declared.outcome.Outcome.{Outcome}
 use Rattle.std.specs.Fmt.{decimal}
 use Rattle.td_ops.specs.Parameters.{query}
 use Rattle.td_ops.specs.declared.call.Query.{Query}
 use Rattle.td_trader.specs.PlainTraders.{PlainTrader}
-use Rattle.td_turns_laws.proofs.Parts.{each-at}
-use Rattle.td_turns_laws.proofs.WalkingItems.{each-parts}
+use Rattle.td_session_runs_laws.proofs.Parts.{each-at}
+use Rattle.td_session_runs_laws.proofs.WalkingItems.{each-parts}
 use Rattle.td_types.proofs.Sequences.{each-append}
 use Rattle.td_walk.specs.declared.trace.Address.{Address}
 use Rattle.td_walk.specs.declared.trace.Visit.{Visit}
@@ -97,23 +99,23 @@ later-before c d (x ∷ asked) le h =
 
 -- ---- lengths
 
-pub told-append : (xs ys : List (List ℕ)) → length (lines_told (xs ++ ys)) ≡ length (lines_told xs) + length (lines_told ys)
-told-append [] ys = omega arith
-told-append (x ∷ xs) ys =
-    let later = told-append xs ys in
-    let whole : length (x ++ 10 ∷ lines_told (xs ++ ys)) ≡ length x + suc (length (lines_told (xs ++ ys))) =
-    length-append x (10 ∷ lines_told (xs ++ ys)) in
-    let front : length (x ++ 10 ∷ lines_told xs) ≡ length x + suc (length (lines_told xs)) =
-    length-append x (10 ∷ lines_told xs) in
+pub content-append : (xs ys : List (List ℕ)) → length (text_of_lines (xs ++ ys)) ≡ length (text_of_lines xs) + length (text_of_lines ys)
+content-append [] ys = omega arith
+content-append (x ∷ xs) ys =
+    let later = content-append xs ys in
+    let whole : length (x ++ 10 ∷ text_of_lines (xs ++ ys)) ≡ length x + suc (length (text_of_lines (xs ++ ys))) =
+    length-append x (10 ∷ text_of_lines (xs ++ ys)) in
+    let front : length (x ++ 10 ∷ text_of_lines xs) ≡ length x + suc (length (text_of_lines xs)) =
+    length-append x (10 ∷ text_of_lines xs) in
     omega (arith, later, whole, front)
 
 -- each line takes a byte at least
-no-more-lines : (xs : List (List ℕ)) → length xs ≤ length (lines_told xs)
+no-more-lines : (xs : List (List ℕ)) → length xs ≤ length (text_of_lines xs)
 no-more-lines [] = omega arith
 no-more-lines (x ∷ xs) =
     let later = no-more-lines xs in
-    let whole : length (x ++ 10 ∷ lines_told xs) ≡ length x + suc (length (lines_told xs)) =
-    length-append x (10 ∷ lines_told xs) in
+    let whole : length (x ++ 10 ∷ text_of_lines xs) ≡ length x + suc (length (text_of_lines xs)) =
+    length-append x (10 ∷ text_of_lines xs) in
     omega (arith, later, whole)
 
 ask-length : (name : List ℕ) → 2 * length (request_to name) ≤ length (ask_line name)
@@ -124,12 +126,12 @@ ask-length name =
       length-append (codes "ask " ++ name ++ codes " ") (encode_lower (request_to name)),
     )
 
-reply-length : (c : ℕ) (o : Outcome) → 2 * length (spelled form o) ≤ length (reply_line c o)
+reply-length : (c : ℕ) (o : Outcome) → 2 * length (spelled_reply form o) ≤ length (reply_line c o)
 reply-length c o =
     omega (
       arith,
-      length-encode_with lower_digits (spelled form o),
-      length-append (codes "reply " ++ decimal c ++ codes " ") (encode_lower (spelled form o)),
+      length-encode_with lower_digits (spelled_reply form o),
+      length-append (codes "reply " ++ decimal c ++ codes " ") (encode_lower (spelled_reply form o)),
     )
 
 -- ---- the reply
@@ -149,7 +151,7 @@ module _ (traders : List PlainTrader) (home : Address) (here : IsAddress home) w
   -- the lines are read, and pass
   record Passed (w : World) (asked : List AskedQuery) (n : ℕ) (lines : List (List ℕ)) : Type 0 where
     feeds : AreLines lines
-    audited : Audited home names (state w asked) n lines (verdict.Yes (n + length lines))
+    audited : HasVerdict home names (state w asked) n lines (verdict.Yes (n + length lines))
 
   -- what holds before a query is asked
   record Before (w : World) (asked : List AskedQuery) (n : ℕ) : Type 0 where
@@ -159,12 +161,12 @@ module _ (traders : List PlainTrader) (home : Address) (here : IsAddress home) w
 
   -- the reply to the query of a call that has ended
   replied : (x : World) (asked : List AskedQuery) (c : ℕ) (name : List ℕ) (v : Visit) (o : Outcome) → AreBefore c asked
-      → visit_at x.calls c ≡ Some v → IsTraderName name → Answers home name v o
+      → visit_at x.calls c ≡ Some v → IsTraderName name → IsOutcomeOfVisit home name v o
       → (let s = state x (asked ++ of_query c ∷ []) in
-      RepliedIn s c (recorded (spelled form o) (answered o)) (asked_of c s.asked) (Ok s))
+      RepliedIn s c (recorded_answer (spelled_reply form o) (client_answer o)) (asked_of c s.asked) (Ok s))
   replied x asked c name v o earlier ends named answers =
-      let s : State = state x (asked ++ of_query c ∷ []) in
-      let reply : Recorded = recorded (spelled form o) (answered o) in
+      let s : AuditState = state x (asked ++ of_query c ∷ []) in
+      let reply : Recorded = recorded_answer (spelled_reply form o) (client_answer o) in
       subst (λ (a : Option AskedQuery). RepliedIn s c reply a (Ok s))
       (sym (last-asked c asked (of_query c) earlier refl))
       (subst (λ (z : Option Visit). EndedIn s (of_query c) reply z (Ok s)) (sym ends)
@@ -172,7 +174,7 @@ module _ (traders : List PlainTrader) (home : Address) (here : IsAddress home) w
 
   -- the outcome can be written
   outcome-written : (x : World) (c n : ℕ) (name : List ℕ) (v : Visit) (o : Outcome) → Stands home names c x n
-      → visit_at x.calls c ≡ Some v → Answers home name v o → AdmitsOutcome operation.Query o
+      → visit_at x.calls c ≡ Some v → IsOutcomeOfVisit home name v o → AdmitsOutcome operation.Query o
   outcome-written x c n name v o stands ends answers =
       let call = ended-call x.calls c v (slice_get x.calls c) refl ends in
       let writes : StageWrites call.call.query call.call.stage =
@@ -180,12 +182,12 @@ module _ (traders : List PlainTrader) (home : Address) (here : IsAddress home) w
       let gives : EndedWrites call.call.query v = subst (StageWrites call.call.query) call.stage writes in
       reply-written home name v o (ended-admits call.call.query v (stands.kept.holds call.call call.is) gives) answers
 
-  asks : {w y : World} {k : ℕ} {rest lines : List (List ℕ)} → AsksAll home w k rest lines y → (front : List (List ℕ))
+  asks : {w y : World} {k : ℕ} {rest lines : List (List ℕ)} → QueriesTraders home w k rest lines y → (front : List (List ℕ))
       → names ≡ front ++ rest → length front ≡ k → IsDistinct bytes_eq names → (asked : List AskedQuery) (n : ℕ)
-      → Before w asked n → n + length (lines_told lines) < 2 ^ 32 → Passed w asked n lines
+      → Before w asked n → n + length (text_of_lines lines) < 2 ^ 32 → Passed w asked n lines
   asks (none {w = w}) front all at distinct asked n h short = record {
     feeds = tt;
-    audited = subst (λ (m : ℕ). Audited home names (state w asked) n [] (verdict.Yes m))
+    audited = subst (λ (m : ℕ). HasVerdict home names (state w asked) n [] (verdict.Yes m))
         (let same : n ≡ n + 0 = omega arith in same) over;
   }
   asks (passed_over {n = k} {name = name} {names = others} unnamed later) front all at distinct asked n h short =
@@ -198,15 +200,15 @@ module _ (traders : List PlainTrader) (home : Address) (here : IsAddress home) w
       let ask = ask_line name in
       let reply = reply_line c o in
       let next = asked ++ of_query c ∷ [] in
-      let told : length (lines_told (ask ∷ lines ++ reply ∷ others))
-      ≡ length ask + suc (length (lines_told (lines ++ reply ∷ others))) =
-      length-append ask (10 ∷ lines_told (lines ++ reply ∷ others)) in
-      let middle = told-append lines (reply ∷ others) in
-      let behind : length (lines_told (reply ∷ others)) ≡ length reply + suc (length (lines_told others)) =
-      length-append reply (10 ∷ lines_told others) in
+      let content : length (text_of_lines (ask ∷ lines ++ reply ∷ others))
+      ≡ length ask + suc (length (text_of_lines (lines ++ reply ∷ others))) =
+      length-append ask (10 ∷ text_of_lines (lines ++ reply ∷ others)) in
+      let middle = content-append lines (reply ∷ others) in
+      let behind : length (text_of_lines (reply ∷ others)) ≡ length reply + suc (length (text_of_lines others)) =
+      length-append reply (10 ∷ text_of_lines others) in
       let low : c < 2 ^ 64 = omega (arith, few, short) in
       let ask-long : 2 * length (request_to name) ≤ length ask = ask-length name in
-      let reply-long : 2 * length (spelled form o) ≤ length reply = reply-length c o in
+      let reply-long : 2 * length (spelled_reply form o) ≤ length reply = reply-length c o in
       let at-name : trader_named names name ≡ Some k =
       ap (λ (xs : List (List ℕ)). trader_named xs name) all
       ∙ name-found front name rest (subst (IsDistinct bytes_eq) all distinct) ∙ ap (λ (m : ℕ). some m) at in
@@ -217,7 +219,7 @@ module _ (traders : List PlainTrader) (home : Address) (here : IsAddress home) w
         few = let more = two-more w u (event.Ask k drill_query) accepts.becomes in omega (arith, few, more);
         kept = asked-keeps (HasQuery drill_query) (query-fixed drill_query) w u k drill_query refl accepts.accepted
             accepts.becomes;
-      }) (omega (arith, short, told, middle)) in
+      }) (omega (arith, short, content, middle)) in
       let ok = outcome-written x c (n + 1 + length lines) name v o followed.stands followed.ends answers in
       let m = n + 1 + length lines + 1 in
       let inside = followed.stands.kept.within in
@@ -230,7 +232,7 @@ module _ (traders : List PlainTrader) (home : Address) (here : IsAddress home) w
         few = omega (arith, calls);
         earlier = each-append (λ (a : AskedQuery). a.call < length x.calls) asked (of_query c ∷ [])
             (later-before c (length x.calls) asked (omega (arith, inside)) h.earlier) (inside, tt);
-      }) (omega (arith, short, told, middle, behind, no-more-lines lines)) in
+      }) (omega (arith, short, content, middle, behind, no-more-lines lines)) in
       let count : m + length others ≡ n + length (ask ∷ lines ++ reply ∷ others) =
       omega (arith, length-append lines (reply ∷ others)) in
       record {
@@ -238,23 +240,23 @@ module _ (traders : List PlainTrader) (home : Address) (here : IsAddress home) w
             (ask-feed name named, lines-append lines (reply ∷ others) followed.feeds (reply-feed c o low, last.feeds));
         audited = passes
             (ask-read names k name named at-name request
-            (request-told name named (omega (arith, short, told, ask-long))))
+            (request-content name named (omega (arith, short, content, ask-long))))
             (accepts.accepted, accepts.becomes, refl)
             (followed.passes_on (reply ∷ others) (verdict.Yes (n + length (ask ∷ lines ++ reply ∷ others)))
             (passes
-            (reply-read names c o (recorded (spelled form o) (answered o)) low octets
-            (reply-told o ok (omega (arith, short, told, middle, behind, reply-long))))
+            (reply-read names c o (recorded_answer (spelled_reply form o) (client_answer o)) low octets
+            (reply-content o ok (omega (arith, short, content, middle, behind, reply-long))))
             (replied x asked c name v o h.earlier followed.ends named answers)
-            (subst (λ (z : ℕ). Audited home names (state x next) m others (verdict.Yes z)) count last.audited)));
+            (subst (λ (z : ℕ). HasVerdict home names (state x next) m others (verdict.Yes z)) count last.audited)));
       }
 
 -- ---- the whole log
 
-abbrev from_first : List (List ℕ) → Opening
+abbrev from_first : List (List ℕ) → LogHead
 from_first lines = record { words = []; number = 0; lines = lines }
 
 -- its first line tells no random words
-no-words : (home : Address) {w y : World} {k : ℕ} {rest lines : List (List ℕ)} → AsksAll home w k rest lines y
+no-words : (home : Address) {w y : World} {k : ℕ} {rest lines : List (List ℕ)} → QueriesTraders home w k rest lines y
     → opening_of lines ≡ from_first lines
 no-words home none = refl
 no-words home (passed_over unnamed later) = no-words home later
@@ -265,16 +267,16 @@ no-words home (more {w = w} {name = name} {lines = lines} {others = others} o na
 
 pub made-pass : MadeLogsPass
 made-pass traders home log opened here is short =
-    let all : length log ≡ length (lines_told is.lines) = ap (length {A = ℕ}) is.told in
+    let all : length log ≡ length (text_of_lines is.lines) = ap (length {A = ℕ}) is.content in
     let passed =
     asks traders home here is.asked [] refl refl opened.distinct [] 0
     (record { writes = record { traders = opened.writable; calls = tt }; few = omega arith; earlier = tt })
     (omega (arith, short, all)) in
-    let read : lines_of log ≡ is.lines = ap lines_of is.told ∙ lines-read is.lines passed.feeds in
+    let read : lines_of log ≡ is.lines = ap lines_of is.content ∙ lines-read is.lines passed.feeds in
     let opening : opening_of (lines_of log) ≡ from_first is.lines = ap opening_of read ∙ no-words home is.asked in
     let count : 0 + length is.lines ≡ length (lines_of log) =
     (let same : 0 + length is.lines ≡ length is.lines = omega arith in same) ∙ sym (ap (length {A = List ℕ}) read) in
-    subst (λ (p : Opening). AuditedFrom traders home p (verdict.Yes (length (lines_of log)))) (sym opening)
+    subst (λ (p : LogHead). AuditedFrom traders home p (verdict.Yes (length (lines_of log)))) (sym opening)
     (subst (λ (m : ℕ). AuditedFrom traders home (from_first is.lines) (verdict.Yes m)) count passed.audited)
 
 -- ---- its verdict

@@ -10,7 +10,7 @@ use Rattle.std.specs.Result.{result_ok}
 use Rattle.hex.proofs.HexLemmas.{decode_of-encode_lower}
 use Rattle.hex.specs.Hex.{encode_lower, encode_with, lower_digits}
 use Rattle.td_audit.specs.Making.{answer_line, ask_line, deliver_line, form, no_value_line, reply_line, request_to}
-use Rattle.td_audit.specs.Replies.{spelled}
+use Rattle.td_audit.specs.Replies.{spelled_reply}
 use Rattle.td_cdr.specs.Lawful.{AreOctets}
 use Rattle.td_cdr.specs.Names.{is_digit, is_trader_byte, trader_name}
 use Rattle.td_drill.specs.Drills.{drill_query}
@@ -132,9 +132,9 @@ ask-parts name =
     ap (λ (x : List ℕ). codes "ask " ++ x) (append_assoc name (32 ∷ []) (encode_lower (request_to name)))
 
 reply-parts : (c : ℕ) (o : Outcome)
-    → reply_line c o ≡ codes "reply" ++ 32 ∷ (decimal c ++ 32 ∷ encode_lower (spelled form o))
+    → reply_line c o ≡ codes "reply" ++ 32 ∷ (decimal c ++ 32 ∷ encode_lower (spelled_reply form o))
 reply-parts c o =
-    ap (λ (x : List ℕ). codes "reply " ++ x) (append_assoc (decimal c) (32 ∷ []) (encode_lower (spelled form o)))
+    ap (λ (x : List ℕ). codes "reply " ++ x) (append_assoc (decimal c) (32 ∷ []) (encode_lower (spelled_reply form o)))
 
 ask-back : (names : List (List ℕ)) (n : ℕ) (name : List ℕ) → trader_name name ≡ true
     → trader_named names name ≡ Some n → AreOctets (request_to name)
@@ -168,12 +168,12 @@ reply-back c bytes r h o f =
     rw (two-are (decimal c) (encode_lower bytes) (decimal-space c h) (hex-lacks 32 refl refl bytes), number-back c h)
     (rw (octets-back bytes o) (rw f refl))
 
-pub reply-read : (names : List (List ℕ)) (c : ℕ) (o : Outcome) (r : Recorded) → c < 2 ^ 64 → AreOctets (spelled form o)
-    → reply_of Query (spelled form o) ≡ Some r → line_of names (reply_line c o) ≡ Some (Reply c r)
+pub reply-read : (names : List (List ℕ)) (c : ℕ) (o : Outcome) (r : Recorded) → c < 2 ^ 64 → AreOctets (spelled_reply form o)
+    → reply_of Query (spelled_reply form o) ≡ Some r → line_of names (reply_line c o) ≡ Some (Reply c r)
 reply-read names c o r h octets f =
     ap (line_of names) (reply-parts c o)
-    ∙ reply-is names (decimal c ++ 32 ∷ encode_lower (spelled form o))
-    ∙ reply-back c (spelled form o) r h octets f
+    ∙ reply-is names (decimal c ++ 32 ∷ encode_lower (spelled_reply form o))
+    ∙ reply-back c (spelled_reply form o) r h octets f
 
 -- ---- the lines lack line feeds
 
@@ -197,7 +197,7 @@ ask-feed name e =
 
 pub reply-feed : (c : ℕ) (o : Outcome) → c < 2 ^ 64 → lacks 10 (reply_line c o) ≡ true
 reply-feed c o h =
-    let digits = encode_lower (spelled form o) in
+    let digits = encode_lower (spelled_reply form o) in
     ap (lacks 10) (reply-parts c o)
     ∙ lacks-append 10 (codes "reply ") (decimal c ++ 32 ∷ digits) refl
-    (lacks-append 10 (decimal c) (32 ∷ digits) (decimal-feed c h) (hex-lacks 10 refl refl (spelled form o)))
+    (lacks-append 10 (decimal c) (32 ∷ digits) (decimal-feed c h) (hex-lacks 10 refl refl (spelled_reply form o)))

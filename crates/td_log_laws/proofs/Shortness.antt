@@ -2,7 +2,8 @@
 use Rattle.std.proofs.Common.{◌≡◌, ℕ, ◌+◌, ◌*◌, ◌≤◌, List, [], ◌∷◌, length, Option, Some, None, refl, subst, arith}
 use Rattle.std.proofs.Common.{length-append}
 use Rattle.td_audit.specs.Auditing.{names_of}
-use Rattle.td_audit.specs.Making.{AsksAll, Follows, Next, answer_line, deliver_line, ended, goes, innermost, more}
+use Rattle.td_audit.specs.Making.{QueriesTraders, RunsCalls, Next, answer_line, deliver_line, ended, goes}
+use Rattle.td_audit.specs.Making.{innermost_call, more}
 use Rattle.td_audit.specs.Making.{next_in, no_value_line, none, passes, reply_line}
 use Rattle.td_drill.specs.Drills.{drill_query}
 use Rattle.td_log_laws.proofs.Lasting.{NoStart, Quiet, SparseWorld, asked-lasts, event-lasts, total}
@@ -36,11 +37,11 @@ next-quiet c (Some (state.Waiting d)) next e = absurd cc
 next-quiet c None next e = absurd cc
 
 -- each line takes one of the events that may come
-follow-short : (root : ℕ) {w x : World} {lines : List (List ℕ)} {v : Visit} → Follows root w lines v x → SparseWorld w
+follow-short : (root : ℕ) {w x : World} {lines : List (List ℕ)} {v : Visit} → RunsCalls root w lines v x → SparseWorld w
     → SparseWorld x × (length lines + total x.calls ≤ total w.calls)
 follow-short root (ended e) h = (h, omega arith)
 follow-short root (goes {w = w} {u = u} {x = x} {lines = lines} next unended at accepts later) h =
-    let c = innermost (length w.calls) w.calls root in
+    let c = innermost_call (length w.calls) w.calls root in
     let event-left =
     event-lasts w u next.event (next-quiet c (state_at w.calls c) next at) h accepts.accepted accepts.becomes in
     let rest = follow-short root later event-left.0 in
@@ -51,7 +52,7 @@ follow-short root (goes {w = w} {u = u} {x = x} {lines = lines} next unended at 
 pub drill-starts : NoStart drill_query
 drill-starts s e = let same : nothing ≡ s = cc in subst (λ (x : Stated). x.start ≡ None) same refl
 
-asks-short : (home : Address) {w y : World} {k : ℕ} {names lines : List (List ℕ)} → AsksAll home w k names lines y
+asks-short : (home : Address) {w y : World} {k : ℕ} {names lines : List (List ℕ)} → QueriesTraders home w k names lines y
     → SparseWorld w → SparseWorld y × (length lines + total y.calls ≤ total w.calls + 128 * length names)
 asks-short home none h = (h, omega arith)
 asks-short home (passes unnamed later) h =

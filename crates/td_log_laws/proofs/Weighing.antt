@@ -9,10 +9,11 @@ use Rattle.std.specs.Fmt.{decimal}
 use Rattle.std.specs.List.{AllByRecursion, list_all}
 use Rattle.hex.proofs.HexLemmas.{length-encode_with}
 use Rattle.hex.specs.Hex.{encode_lower, lower_digits}
-use Rattle.td_audit.specs.Making.{Answers, AsksAll, Follows, IsLog, Next, answer_line, ask_line, deliver_line, ended}
-use Rattle.td_audit.specs.Making.{form, goes, innermost, lines_told, more, next_in, no_value_line, none, passes}
+use Rattle.td_audit.specs.Making.{IsOutcomeOfVisit, QueriesTraders, RunsCalls, IsLog, Next, answer_line, ask_line}
+use Rattle.td_audit.specs.Making.{deliver_line, ended}
+use Rattle.td_audit.specs.Making.{form, goes, innermost_call, text_of_lines, more, next_in, no_value_line, none, passes}
 use Rattle.td_audit.specs.Making.{reply_line, request_to}
-use Rattle.td_audit.specs.Replies.{begun, spelled}
+use Rattle.td_audit.specs.Replies.{reply_head, spelled_reply}
 use Rattle.td_audit_laws.proofs.Roots.{HasQuery, Keeps, asked-keeps, query-fixed, run-keeps}
 use Rattle.td_audit_laws.proofs.Walks.{ended-call}
 use Rattle.td_cdr.specs.Names.{IsTraderName, is_trader_byte, trader_name}
@@ -31,7 +32,7 @@ use Rattle.td_log_laws.proofs.Keeping.{CallHas, StageHas, WorldHas, event-keeps}
 use Rattle.td_log_laws.proofs.Following.{next-is, next-some, within}
 use Rattle.td_log_laws.proofs.Growing.{two-more}
 use Rattle.td_log_laws.proofs.Lasting.{EndedSo, SparseCall, SparseStage, SparseWorld, asked-lasts, event-lasts}
-use Rattle.td_log_laws.proofs.Made.{told-append}
+use Rattle.td_log_laws.proofs.Made.{content-append}
 use Rattle.td_log_laws.proofs.Refusing.{refused-brief}
 use Rattle.td_log_laws.proofs.Shortness.{drill-starts, made-short, next-quiet}
 use Rattle.td_log_laws.proofs.Whole.{asked, sealed-length}
@@ -41,7 +42,7 @@ use Rattle.td_lookup.specs.Querying.{first_offers}
 use Rattle.td_net.specs.Schedules.{over, then}
 use Rattle.td_net.specs.Worlds.{World, Becomes, state_at, step_of, visit_at}
 use Rattle.td_net.specs.declared.event.Event.{Event}
-use Rattle.td_codes.specs.declared.reference.Ior.{Ior}
+use Rattle.td_typecode.specs.declared.reference.Ior.{Ior}
 use Rattle.td_store.specs.declared.record.OfferRecord.{OfferRecord}
 use Rattle.td_net.specs.declared.event.CallState.{CallState}
 use Rattle.td_net.specs.declared.event.CallState.TheVariants as state
@@ -52,7 +53,7 @@ use Rattle.td_ops.specs.Outcomes.{outcome_piece}
 use Rattle.td_ops.specs.declared.call.Query.{Query}
 use Rattle.td_ops.specs.declared.outcome.Outcome.{Outcome}
 use Rattle.td_trader.specs.PlainTraders.{PlainTrader, store_of}
-use Rattle.td_turns_laws.proofs.Parts.{each-at}
+use Rattle.td_session_runs_laws.proofs.Parts.{each-at}
 use Rattle.td_value.specs.declared.key.Kind.TheVariants.{Lookup}
 use Rattle.td_value.specs.declared.structures.Offer.{Offer}
 use Rattle.td_walk.specs.declared.trace.Address.{Address}
@@ -163,8 +164,8 @@ module _ (name : List ℕ) (named : trader_name name ≡ true) where
 
 -- a batch fits in a message
 answer-small : (home : Address) (name : List ℕ) (limits : List (List ℕ)) (offers : List Offer) (n count : ℕ)
-    → IsBatch (offers_found (offer_iterator home name 1) limits) offers (begun form) n count
-    → length (spelled form (first_offers home name 1 limits offers count)) ≤ 16777228
+    → IsBatch (offers_found (offer_iterator home name 1) limits) offers (reply_head form) n count
+    → length (spelled_reply form (first_offers home name 1 limits offers count)) ≤ 16777228
 answer-small home name limits offers n count batch =
     let start = reply_start Big 0 1 0 in
     let body = outcome_piece (first_offers home name 1 limits offers count) Big (length start) in
@@ -175,19 +176,19 @@ answer-small home name limits offers n count batch =
     omega (arith, fits, both, whole)
 
 visit-small : (home : Address) (name : List ℕ) (q : Query) (v : Visit) (o : Outcome) → q ≡ drill_query → EndedSo q v
-    → Answers home name v o → length (spelled form o) ≤ 16777228
+    → IsOutcomeOfVisit home name v o → length (spelled_reply form o) ≤ 16777228
 visit-small home name q (visit.Refused r) o e so is =
-    subst (λ (x : Outcome). length (spelled form x) ≤ 16777228) (sym is)
+    subst (λ (x : Outcome). length (spelled_reply form x) ≤ 16777228) (sym is)
     (let brief = refused-brief q r e so in omega (arith, brief))
 visit-small home name q (visit.Answered a max_list) o e so is =
-    subst (λ (x : Outcome). length (spelled form x) ≤ 16777228) (sym is.2)
+    subst (λ (x : Outcome). length (spelled_reply form x) ≤ 16777228) (sym is.2)
     (answer-small home name a.limits (map (chosen drill_query.desired) a.offers) (min drill_query.how_many max_list)
     is.0 is.1)
 
-reply-small : (most c : ℕ) (o : Outcome) → c < 2 ^ 64 → length (spelled form o) ≤ most
+reply-small : (most c : ℕ) (o : Outcome) → c < 2 ^ 64 → length (spelled_reply form o) ≤ most
     → length (reply_line c o) ≤ 2 * most + 27
 reply-small most c o h few =
-    let hex = length-encode_with lower_digits (spelled form o) in
+    let hex = length-encode_with lower_digits (spelled_reply form o) in
     omega (
       arith,
       few,
@@ -195,7 +196,7 @@ reply-small most c o h few =
       digits-few c h,
       length-append (codes "reply ") (decimal c),
       length-append (codes "reply " ++ decimal c) (codes " "),
-      length-append (codes "reply " ++ decimal c ++ codes " ") (encode_lower (spelled form o)),
+      length-append (codes "reply " ++ decimal c ++ codes " ") (encode_lower (spelled_reply form o)),
     )
 
 -- ---- a log, where each reply to the query has so many bytes at most
@@ -207,7 +208,7 @@ share each (suc n) = each + share each n
 
 module _ (home : Address) (P : Ior → Type 0) (most : ℕ)
     (replies : (name : List ℕ) (q : Query) (v : Visit) (o : Outcome) → IsTraderName name → q ≡ drill_query
-    → EndedSo q v → EndedRefers P q v → Answers home name v o → length (spelled form o) ≤ most) where
+    → EndedSo q v → EndedRefers P q v → IsOutcomeOfVisit home name v o → length (spelled_reply form o) ≤ most) where
   keeps : (w u : World) (e : Event) → WorldHas (referring P) w → IsMade e → Becomes w (step_of w e) u
       → WorldHas (referring P) u
   keeps w u e h made b = event-keeps (referring P) IsMade (keeps-referring P) w u e h made b
@@ -224,9 +225,9 @@ module _ (home : Address) (P : Ior → Type 0) (most : ℕ)
   record Light (root : ℕ) (x : World) (n : ℕ) (lines : List (List ℕ)) (v : Visit) : Type 0 where
     holds : Holds root x n
     ends : visit_at x.calls root ≡ Some v
-    bytes : length (lines_told lines) ≤ 29 * length lines
+    bytes : length (text_of_lines lines) ≤ 29 * length lines
 
-  follow-light : (root : ℕ) {w x : World} {lines : List (List ℕ)} {v : Visit} → Follows root w lines v x → (n : ℕ)
+  follow-light : (root : ℕ) {w x : World} {lines : List (List ℕ)} {v : Visit} → RunsCalls root w lines v x → (n : ℕ)
       → Holds root w n → n + length lines < 2 ^ 62 → Light root x (n + length lines) lines v
   follow-light root (ended {w = w} e) n h low = record {
     holds = subst (Holds root w) (let same : n ≡ n + 0 = omega arith in same) h;
@@ -234,7 +235,7 @@ module _ (home : Address) (P : Ior → Type 0) (most : ℕ)
     bytes = omega arith;
   }
   follow-light root (goes {w = w} {u = u} {x = x} {lines = lines} next open_yet at accepts later) n h low =
-      let c = innermost (length w.calls) w.calls root in
+      let c = innermost_call (length w.calls) w.calls root in
       let there = next-some c (state_at w.calls c) next at in
       let inside = within w.calls c there.0 there.1 in
       let few = h.few in
@@ -256,13 +257,13 @@ module _ (home : Address) (P : Ior → Type 0) (most : ℕ)
       record {
         holds = subst (Holds root x) count rest.holds;
         ends = rest.ends;
-        bytes = omega (arith, line, others, length-append next.line (10 ∷ lines_told lines));
+        bytes = omega (arith, line, others, length-append next.line (10 ∷ text_of_lines lines));
       }
 
   -- ---- the reply behind them
 
   outcome-small : (name : List ℕ) (x : World) (c n : ℕ) (v : Visit) (o : Outcome) → IsTraderName name → Holds c x n
-      → visit_at x.calls c ≡ Some v → Answers home name v o → length (spelled form o) ≤ most
+      → visit_at x.calls c ≡ Some v → IsOutcomeOfVisit home name v o → length (spelled_reply form o) ≤ most
   outcome-small name x c n v o named h ends answers =
       let call = ended-call x.calls c v (slice_get x.calls c) refl ends in
       let sparse : SparseStage call.call.query call.call.stage =
@@ -276,9 +277,9 @@ module _ (home : Address) (P : Ior → Type 0) (most : ℕ)
 
   -- ---- all lines
 
-  asks-light : {w y : World} {k : ℕ} {names lines : List (List ℕ)} → AsksAll home w k names lines y → (n : ℕ)
+  asks-light : {w y : World} {k : ℕ} {names lines : List (List ℕ)} → QueriesTraders home w k names lines y → (n : ℕ)
       → SparseWorld w → WorldHas (referring P) w → length w.calls ≤ 2 * n → n + length lines < 2 ^ 62
-      → length (lines_told lines) ≤ 29 * length lines + share (2 * most + 664) (length names)
+      → length (text_of_lines lines) ≤ 29 * length lines + share (2 * most + 664) (length names)
   asks-light none n h refers few low = omega arith
   asks-light (passes unnamed later) n h refers few low =
       let rest = asks-light later n h refers few low in omega (arith, rest)
@@ -307,12 +308,12 @@ module _ (home : Address) (P : Ior → Type 0) (most : ℕ)
       let reply-bytes =
       reply-small most c o (omega (arith, few, low))
       (outcome-small name x c (n + 1 + length lines) v o named followed.holds followed.ends answers) in
-      let front : length (lines_told (ask_line name ∷ lines ++ reply ∷ others))
-      ≡ length (ask_line name) + suc (length (lines_told (lines ++ reply ∷ others))) =
-      length-append (ask_line name) (10 ∷ lines_told (lines ++ reply ∷ others)) in
-      let middle = told-append lines (reply ∷ others) in
-      let behind : length (lines_told (reply ∷ others)) ≡ length reply + suc (length (lines_told others)) =
-      length-append reply (10 ∷ lines_told others) in
+      let front : length (text_of_lines (ask_line name ∷ lines ++ reply ∷ others))
+      ≡ length (ask_line name) + suc (length (text_of_lines (lines ++ reply ∷ others))) =
+      length-append (ask_line name) (10 ∷ text_of_lines (lines ++ reply ∷ others)) in
+      let middle = content-append lines (reply ∷ others) in
+      let behind : length (text_of_lines (reply ∷ others)) ≡ length reply + suc (length (text_of_lines others)) =
+      length-append reply (10 ∷ text_of_lines others) in
       omega (arith, front, middle, behind, ask-bytes, between, reply-bytes, rest, lines-in)
 
   -- the whole log
@@ -320,7 +321,7 @@ module _ (home : Address) (P : Ior → Type 0) (most : ℕ)
       → AllByRecursion (λ (t : PlainTrader). OffersRefer P (store_of t).offers) traders → length traders ≤ 64
       → IsLog traders home log → length log ≤ 237568 + share (2 * most + 664) (length traders)
   made-light traders log sparse refers few is =
-      let all : length log ≡ length (lines_told is.lines) = ap (length {A = ℕ}) is.told in
+      let all : length log ≡ length (text_of_lines is.lines) = ap (length {A = ℕ}) is.content in
       let short = made-short traders home log sparse is in
       let count : share (2 * most + 664) (length (map (λ (t : PlainTrader). t.name) traders))
       ≡ share (2 * most + 664) (length traders) =

@@ -1,14 +1,14 @@
 -- What a network of traders answers can be written, where their values can be.
 use Rattle.std.proofs.Common.{◌≡◌, ℕ, List, [], Option, None, Some, refl, arith, length}
 use Rattle.td_cdr.specs.Sound.{sequence}
-use Rattle.td_codes.specs.Values.{any_value}
-use Rattle.td_codes.specs.declared.code.Any.{Any}
+use Rattle.td_typecode.specs.Values.{any_value}
+use Rattle.td_typecode.specs.declared.code.Any.{Any}
 use Rattle.td_iter.specs.Heads.{AreLimits}
 use Rattle.td_log_laws.proofs.Keeping.{BeginsSo, CallHas, Invariant, IsKept, StageHas, WorldHas, event-keeps}
 use Rattle.td_lookup.proofs.Limited.{answer_limits}
 use Rattle.td_walk.specs.Answers.{IsAnswer}
 use Rattle.td_walk.specs.declared.answer.SubAnswer.{SubAnswer}
-use Rattle.td_net.specs.Worlds.{answered, World, Becomes, Refused, step_of, value_answer}
+use Rattle.td_net.specs.Worlds.{visit_answer, World, Becomes, Refused, step_of, value_answer}
 use Rattle.td_net.specs.declared.call.Call.{Call}
 use Rattle.td_net.specs.declared.call.Stage.{Stage}
 use Rattle.td_net.specs.declared.event.Event.{Event}
@@ -25,15 +25,15 @@ use Rattle.td_trader.specs.declared.begin.Begin.TheVariants as begin
 use Rattle.td_trader_laws.proofs.Writing.{begun, changes, stores}
 use Rattle.td_trader_laws.proofs.WritingQueries.{refused-written}
 use Rattle.td_trader_laws.specs.WritableTraders.{IsWritableTrader}
-use Rattle.td_turns_laws.proofs.WalkingAnswers.{AreWritableSteps, IsWritableLocal, IsWritableStep, answer-writes}
-use Rattle.td_turns_laws.proofs.WalkingOffers.{AreOffers}
-use Rattle.td_turns_laws.proofs.WalkingStarts.{BeginsWith, begin-writes}
+use Rattle.td_session_runs_laws.proofs.WalkingAnswers.{AreWritableSteps, IsWritableLocal, IsWritableStep, answer-writes}
+use Rattle.td_session_runs_laws.proofs.WalkingOffers.{AreOffers}
+use Rattle.td_session_runs_laws.proofs.WalkingStarts.{BeginsWith, begin-writes}
 use Rattle.td_types.proofs.Sequences.{sequence-each, sequence-from}
 use Rattle.td_value.specs.Structures.{offer}
 use Rattle.td_walk.specs.declared.answer.StepAnswer.{StepAnswer}
 use Rattle.td_walk.specs.declared.trace.Visit.{Visit}
 use Rattle.td_walk.specs.declared.trace.Visit.TheVariants as visit
-use Rattle.td_walk_laws.specs.Walks.{answer_in}
+use Rattle.td_query_walk.specs.Walks.{answer_in}
 
 -- ---- what can be written of a network
 
@@ -87,7 +87,7 @@ begins-writes t q h =
     (begin-writes (store_of t) (length t.history) t.marks q (stores t h) t.bounds)
 
 closes-writes : (q : Query) (l : Local) (rs : List StepAnswer) (word : ℕ → ℕ) (a : SubAnswer) → IsWritableLocal l
-    → AreWritableSteps rs → IsAnswer l rs word a → EndedWrites q (answered l a)
+    → AreWritableSteps rs → IsAnswer l rs word a → EndedWrites q (visit_answer l a)
 closes-writes q l rs word a local steps is =
     (answer-writes l rs word a local steps is, answer_limits l rs word a is)
 

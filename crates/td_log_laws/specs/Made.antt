@@ -25,7 +25,7 @@ MadeLogsPass =
     → IsLog traders home log → length log < 2 ^ 32
     → Audits traders home log (Yes (length (lines_of log)))
 
--- So that is the verdict on it, or memory is wanted.
+-- So that is the verdict on it, or memory runs out.
 abbrev pub MadeLogsAreRight : Type 0
 MadeLogsAreRight =
     (traders : List PlainTrader) (home : Address) (log : List ℕ) (v : Verdict) → AreOpened traders

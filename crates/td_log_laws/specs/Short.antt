@@ -11,12 +11,12 @@ use Rattle.td_walk.specs.Resolving.{dynamic_named}
 use Rattle.td_walk.specs.declared.trace.Address.{Address}
 
 -- an ordinary offer without dynamic properties
-pub record IsPlain (o : OfferRecord) : Type 0 where
+pub record IsStaticOffer (o : OfferRecord) : Type 0 where
   pub ordinary : o.proxy ≡ None
   pub static : (name : List ℕ) → dynamic_named o.properties name ≡ None
 
 abbrev pub ArePlain : List OfferRecord → Type 0
-ArePlain os = AllByRecursion IsPlain os
+ArePlain os = AllByRecursion IsStaticOffer os
 
 -- Such offers alone, two links at most, and a query that states no hop count goes over five links at most.
 pub record IsSparse (s : Store) : Type 0 where

@@ -10,7 +10,7 @@ use td_audit_laws::verdicts_are_one;
 
 /// A log that `make_log` gives of traders that a file can open passes when it is audited, if it has fewer than 2^32
 /// bytes: each of its lines is read, each event is accepted, and each reply is the one that the server writes. So
-/// `audit` of it answers that each line passes, or wants memory.
+/// `audit` of it answers that each line passes, or runs out of memory.
 pub fn made_logs_pass()
     ensures passes { MadeLogsPass }
     ensures right { MadeLogsAreRight }

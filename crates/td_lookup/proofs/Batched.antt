@@ -5,28 +5,28 @@ use Rattle.std.proofs.Math.Seq.{drop-length}
 use Rattle.std.proofs.lemmas.Bool.{both_ways}
 use Rattle.td_cdr.specs.Format.{Piece}
 use Rattle.td_cdr.specs.Writing.{Draft}
-use Rattle.td_cdr.specs.declared.memory.Memory.{Memory as Wanting}
+use Rattle.td_cdr.specs.declared.memory.Memory.{Memory as OutOfMemory}
 use Rattle.td_cdr.specs.declared.order.Order.{Order}
-use Rattle.td_codes.specs.Formats.{is_some}
-use Rattle.td_codes.specs.declared.reference.Ior.{Ior}
+use Rattle.td_typecode.specs.Formats.{is_nonempty}
+use Rattle.td_typecode.specs.declared.reference.Ior.{Ior}
 use Rattle.td_iter.specs.Batches.{GivesBatch, GivesWhole, IsBatch, PutsBatch}
-use Rattle.td_iter.specs.Desks.{Live, added}
+use Rattle.td_iter.specs.Desks.{Live, with_added}
 use Rattle.td_iter.specs.Heads.{offers_found}
 use Rattle.td_iter.specs.declared.item.Item.TheVariants.{Offers}
 use Rattle.td_objects.specs.References.{offer_iterator}
 use Rattle.td_lookup.specs.Querying.{first_offers, offers_kept}
-use Rattle.td_lookup.specs.Telling.{PutsFirst}
+use Rattle.td_lookup.specs.Answering.{PutsFirst}
 use Rattle.td_ops.specs.Outcomes.{outcome_piece}
 use Rattle.td_value.specs.declared.structures.Offer.{Offer}
 use Rattle.td_walk.specs.declared.trace.Address.{Address}
 
 -- what is left behind a batch is kept
 rest_kept : (name : List ℕ) (left rest : List Offer) (more : Bool) (d e : Live)
-    → e ≡ (if more then added name (Offers rest) d else d) → rest ≡ left → more ≡ is_some rest
+    → e ≡ (if more then with_added name (Offers rest) d else d) → rest ≡ left → more ≡ is_nonempty rest
     → e ≡ offers_kept name left d
-rest_kept name left rest more d e made same told =
+rest_kept name left rest more d e made same content =
     subst (λ (xs : List Offer). e ≡ offers_kept name xs d) same
-    (subst (λ (b : Bool). e ≡ (if b then added name (Offers rest) d else d)) told made)
+    (subst (λ (b : Bool). e ≡ (if b then with_added name (Offers rest) d else d)) content made)
 
 -- what is less than all has something before it
 dropped-some : (k : ℕ) (left rest : List Offer) → rest ≡ drop k left → length rest < length left → 0 < k
@@ -39,7 +39,7 @@ pub batched : (home : Address) (name : List ℕ) (n : ℕ) (limits : List (List 
     (reference : Ior) (old new : Draft) (d e : Live) (more : Bool) → reference ≡ offer_iterator home name d.1
     → GivesBatch (offers_found reference limits) left n rest old new more
     → (0 < n → 0 < length left → length rest < length left)
-    → e ≡ (if more then added name (Offers rest) d else d) → PutsFirst home name n limits left old new d e
+    → e ≡ (if more then with_added name (Offers rest) d else d) → PutsFirst home name n limits left old new d e
 batched home name n limits left rest reference old new d e more own gives some made =
     let g : GivesBatch (offers_found (offer_iterator home name d.1) limits) left n rest old new more =
     subst (λ (x : Ior). GivesBatch (offers_found x limits) left n rest old new more) own gives in
@@ -58,7 +58,7 @@ pub nothing_written : (head : List Offer → Bool → Piece) (left rest : List O
 nothing_written head left rest n old new false e g = (g.0.0, g.1)
 nothing_written head left rest n old new true e g = absurd (both_ways true e refl)
 
-pub unchanged_after : (old mid new : Draft) (d e : Live) (r : Result (Unit {0}) Wanting) → mid.bytes ≡ old.bytes
+pub unchanged_after : (old mid new : Draft) (d e : Live) (r : Result (Unit {0}) OutOfMemory) → mid.bytes ≡ old.bytes
     → OnErr r ((e ≡ d) × (new.bytes ≡ mid.bytes)) → OnErr r ((e ≡ d) × (new.bytes ≡ old.bytes))
 unchanged_after old mid new d e (Ok b) same u = tt
 unchanged_after old mid new d e (Err m) same u = (u.0, u.1 ∙ same)
@@ -66,7 +66,7 @@ unchanged_after old mid new d e (Err m) same u = (u.0, u.1 ∙ same)
 module _ (home : Address) (name : List ℕ) (n : ℕ) (limits : List (List ℕ)) (offers : List Offer) where
   -- told of the trader that the label names
   pub tell_first : (trader : List ℕ) (number : ℕ) (reference : Ior) (old new : Draft) (d e : Live)
-      (r : Result (Unit {0}) Wanting) → trader ≡ name → reference ≡ offer_iterator home name number → number ≡ d.1
+      (r : Result (Unit {0}) OutOfMemory) → trader ≡ name → reference ≡ offer_iterator home name number → number ≡ d.1
       → ((h : Address) → reference ≡ offer_iterator h trader d.1
       → OnOk r (PutsFirst h trader n limits offers old new d e)) → OnOk r (PutsFirst home name n limits offers old new d e)
   tell_first trader number reference old new d e r t made next p =
@@ -110,7 +110,7 @@ module _ (home : Address) (name : List ℕ) (n : ℕ) (limits : List (List ℕ))
         some = q.some;
       }
 
-  pub tell_after : (left : List Offer) (old mid new : Draft) (d e : Live) (r : Result (Unit {0}) Wanting) → left ≡ offers
+  pub tell_after : (left : List Offer) (old mid new : Draft) (d e : Live) (r : Result (Unit {0}) OutOfMemory) → left ≡ offers
       → mid.bytes ≡ old.bytes → mid.order ≡ old.order → OnOk r (PutsFirst home name n limits left mid new d e)
       → OnOk r (PutsFirst home name n limits offers old new d e)
   tell_after left old mid new d e (Ok b) same bytes order p = puts_after left old mid new d e same bytes order p

@@ -3,38 +3,39 @@ use Rattle.std.proofs.Common.{◌≡◌, inl, inr, ℕ, ◌+◌, Bool, true, fal
 use Rattle.std.proofs.Common.{Option, None, Some, Result, Ok, Err, refl, sym, ap, subst, ◌∙◌, arith}
 use Rattle.std.proofs.Common.{append-nil}
 use Rattle.td_cdr.specs.Marks.{Marks}
-use Rattle.td_codes.specs.declared.reference.Ior.{Ior}
+use Rattle.td_typecode.specs.declared.reference.Ior.{Ior}
 use Rattle.td_fed.proofs.Points.{goes-length}
-use Rattle.td_fed.specs.Resolving.{Follows, IsAskedFor, Resolves, followed, given, illegal, inside, named, outside}
+use Rattle.td_fed.specs.Resolving.{ResolvesFrom, IsAskedFor, Resolves, followed, given, illegal, inside, named, outside}
 use Rattle.td_fed.specs.Resolving.{ungiven, unknown}
-use Rattle.td_fed.specs.Resolving.{wanting as given_in_vain}
-use Rattle.td_fed.specs.Trails.{DrawsOn, Goes, IsQuiet, Rises, marks_of, own_marks_at, points_of}
+use Rattle.td_fed.specs.Resolving.{no_memory_outcome as given_without_memory}
+use Rattle.td_fed.specs.Trails.{DrawsOn, Goes, IsQuiet, NeverFalls, marks_of, own_marks_at, points_of}
 use Rattle.td_fed.specs.declared.resolving.NameAnswer.{NameAnswer}
 use Rattle.td_lookup.specs.Naming.{name_entry}
 use Rattle.td_lookup.specs.Scenes.{Scene}
-use Rattle.td_lookup.specs.Telling.{NameTold, TakenBack, in_vain, name_told, unanswered, wants_memory}
-use Rattle.td_lookup.specs.Unserved.{WantingEntry, gave_in, items_of, wanting}
-use Rattle.td_lookup.specs.Unserved.{name as of_name, nothing as of_nothing}
+use Rattle.td_lookup.specs.Answering.{AnswersName, GivesNoMemory, no_memory_entry, name_answer, no_memory_with}
+use Rattle.td_lookup.specs.Answering.{wants_memory}
+use Rattle.td_lookup.specs.NoMemory.{NoMemoryEntry, gave_in, items_of, no_memory_outcome}
+use Rattle.td_lookup.specs.NoMemory.{name as of_name, nothing as of_nothing}
 use Rattle.td_ops.specs.declared.call.Call.TheVariants as call
 use Rattle.td_register.specs.declared.history.Accepted.{Accepted}
-use Rattle.td_reply.specs.declared.answer.Answer.{Answer}
-use Rattle.td_reply.specs.declared.answer.ReplyBody.TheVariants as reply_body
-use Rattle.td_reply.specs.declared.entry.Entry.{Entry}
-use Rattle.td_reply.specs.declared.entry.Entry.TheVariants.{Asked, Plain}
-use Rattle.td_reply.specs.declared.judging.Judged.TheVariants.{Call}
-use Rattle.td_reply.specs.declared.objects.Object.{Object}
+use Rattle.td_servant.specs.declared.answer.Answer.{Answer}
+use Rattle.td_servant.specs.declared.answer.ReplyBody.TheVariants as reply_body
+use Rattle.td_servant.specs.declared.entry.Entry.{Entry}
+use Rattle.td_servant.specs.declared.entry.Entry.TheVariants.{Asked, Plain}
+use Rattle.td_servant.specs.declared.judging.Judged.TheVariants.{Call}
+use Rattle.td_servant.specs.declared.objects.Object.{Object}
 use Rattle.td_trader.specs.Worlds.{View, history_at}
-use Rattle.td_walk.specs.Peering.{Exchange, Failed, Given, Referred}
+use Rattle.td_walk.specs.Peering.{Exchange, Failed, PeerAnswer, Referred}
 use Rattle.td_walk.specs.declared.fault.PeerFault.{PeerFault}
 use Rattle.td_walk.specs.declared.trace.Address.{Address}
 use Rattle.td_walk.specs.declared.trace.TraceItem.{TraceItem}
-use Rattle.td_walk_laws.proofs.Counting.{counts-made}
-use Rattle.td_walk_laws.specs.Faults.{CountsFaults}
-use Rattle.td_walk_laws.specs.Walks.{given_in}
+use Rattle.td_query_walk.proofs.Counting.{counts-made}
+use Rattle.td_query_walk.specs.Faults.{CountsFaults}
+use Rattle.td_query_walk.specs.Walks.{given_in}
 
 -- ---- what a register outside gave
 
-abbrev pub gave_of : Option (Result Ior PeerFault) → List Given
+abbrev pub gave_of : Option (Result Ior PeerFault) → List PeerAnswer
 gave_of None = []
 gave_of (Some (Ok r)) = Referred r ∷ []
 gave_of (Some (Err f)) = Failed f ∷ []
@@ -51,13 +52,13 @@ none_gave calls now same = record { made = []; is = same ∙ sym (append-nil cal
 asked_gave : {point : ℕ} {whole rest : List (List ℕ)} {register : Ior} {calls : List Exchange} {a : NameAnswer}
     {now : List Exchange} → IsAskedFor point whole rest register calls a now → Gave a.asked calls now
 asked_gave (given r) = record { made = _; is = refl; given = refl }
-asked_gave (given_in_vain r) = record { made = _; is = refl; given = refl }
+asked_gave (given_without_memory r) = record { made = _; is = refl; given = refl }
 asked_gave (ungiven f h) = record { made = _; is = refl; given = refl }
 
 module _ (others : List Accepted → Type 0) (later : Marks → Marks → Type 0) (home : Address) where
   follow_gave : {whole : List (List ℕ)} (calls : List Exchange) {w : List View} {k : ℕ} {names : List (List ℕ)}
       {a : NameAnswer} {u : List View} {now : List Exchange}
-      → Follows others later home whole calls w k names a u now → Gave a.asked calls now
+      → ResolvesFrom others later home whole calls w k names a u now → Gave a.asked calls now
   follow_gave calls (unknown h) = none_gave calls calls refl
   follow_gave calls (named register h) = none_gave calls calls refl
   follow_gave calls (inside register n h i more) = follow_gave calls more
@@ -72,27 +73,27 @@ module _ (others : List Accepted → Type 0) (later : Marks → Marks → Type 0
 -- ---- entries
 
 gave_noted : (w : List View) (k point : ℕ) (asked : Option (Result Ior PeerFault))
-    → gave_in (in_vain w k (name_entry k point asked)) ≡ gave_of asked
+    → gave_in (no_memory_entry w k (name_entry k point asked)) ≡ gave_of asked
 gave_noted w k point None = refl
 gave_noted w k point (Some (Ok r)) = refl
 gave_noted w k point (Some (Err f)) = refl
 
 no_items : (w : List View) (k point : ℕ) (asked : Option (Result Ior PeerFault))
-    → items_of (in_vain w k (name_entry k point asked)) ≡ []
+    → items_of (no_memory_entry w k (name_entry k point asked)) ≡ []
 no_items w k point None = refl
 no_items w k point (Some gave) = refl
 
 twice : (w : List View) (k point : ℕ) (asked : Option (Result Ior PeerFault))
-    → in_vain w k (in_vain w k (name_entry k point asked)) ≡ in_vain w k (name_entry k point asked)
+    → no_memory_entry w k (no_memory_entry w k (name_entry k point asked)) ≡ no_memory_entry w k (name_entry k point asked)
 twice w k point None = refl
 twice w k point (Some gave) = refl
 
-entry_wanting : (w : List View) (x : Object) (names : List (List ℕ)) (k point : ℕ)
+entry_no_memory : (w : List View) (x : Object) (names : List (List ℕ)) (k point : ℕ)
     (asked : Option (Result Ior PeerFault)) → x.trader ≡ k
-    → WantingEntry w (Call x (call.Resolve names)) (in_vain w k (name_entry k point asked))
-entry_wanting w x names k point None h = of_nothing refl
-entry_wanting w x names k point (Some gave) h =
-    subst (λ (j : ℕ). WantingEntry w (Call x (call.Resolve names)) (Asked j (length (history_at w j)) gave)) h
+    → NoMemoryEntry w (Call x (call.Resolve names)) (no_memory_entry w k (name_entry k point asked))
+entry_no_memory w x names k point None h = of_nothing refl
+entry_no_memory w x names k point (Some gave) h =
+    subst (λ (j : ℕ). NoMemoryEntry w (Call x (call.Resolve names)) (Asked j (length (history_at w j)) gave)) h
     (of_name gave)
 
 none_drawn : (words : ℕ → ℕ) → DrawsOn words words
@@ -104,10 +105,10 @@ module _ (others : List Accepted → Type 0) (later : Marks → Marks → Type 0
     (names : List (List ℕ)) (s t : Scene) (at : x.trader ≡ k) (desk : t.desk ≡ s.desk) (words : t.words ≡ s.words)
     (goes : Goes others later s.world t.world) (quiet : IsQuiet s.world t.world)
     (faults : CountsFaults s.peers.calls t.peers.calls s.peers.faults t.peers.faults) where
-  unserved_name : (point : ℕ) (asked : Option (Result Ior PeerFault)) → Gave asked s.peers.calls t.peers.calls
-      → TakenBack others later home (Call x (call.Resolve names)) s (in_vain t.world k (name_entry k point asked)) t
-  unserved_name point asked g = record {
-    entry = entry_wanting t.world x names k point asked at;
+  no_memory_name : (point : ℕ) (asked : Option (Result Ior PeerFault)) → Gave asked s.peers.calls t.peers.calls
+      → GivesNoMemory others later home (Call x (call.Resolve names)) s (no_memory_entry t.world k (name_entry k point asked)) t
+  no_memory_name point asked g = record {
+    entry = entry_no_memory t.world x names k point asked at;
     walk = tt;
     outcome = refl;
     desk = desk;
@@ -116,7 +117,7 @@ module _ (others : List Accepted → Type 0) (later : Marks → Marks → Type 0
         quiet.own_marks j ∙ (sym (append-nil (own_marks_at s.world j))
         ∙ ap (λ is. own_marks_at s.world j ++ marks_of j is) (sym (no_items t.world k point asked)));
     points = λ j.
-        subst (λ (is : List TraceItem). Rises (length (history_at s.world j)) (points_of j is)
+        subst (λ (is : List TraceItem). NeverFalls (length (history_at s.world j)) (points_of j is)
         (length (history_at t.world j))) (sym (no_items t.world k point asked)) (goes-length others later goes j);
     peers = record {
       made = g.made;
@@ -128,19 +129,19 @@ module _ (others : List Accepted → Type 0) (later : Marks → Marks → Type 0
     words = λ h. words;
   }
 
-  told_by : (a : NameAnswer) (b : Bool) → wants_memory a.outcome ≡ b
+  content_by : (a : NameAnswer) (b : Bool) → wants_memory a.outcome ≡ b
       → Resolves others later home s.world s.peers.calls k names a t.world t.peers.calls
-      → NameTold others later home x s k names
-      (if b then unanswered (in_vain t.world k (name_entry k a.point a.asked))
+      → AnswersName others later home x s k names
+      (if b then no_memory_with (no_memory_entry t.world k (name_entry k a.point a.asked))
       else record { body = reply_body.Outcome a.outcome; entry = name_entry k a.point a.asked }) t
-  told_by a true is r = inr (record {
-    outcome = wanting (in_vain t.world k (name_entry k a.point a.asked));
+  content_by a true is r = inr (record {
+    outcome = no_memory_outcome (no_memory_entry t.world k (name_entry k a.point a.asked));
     comes =
-        unserved_name a.point a.asked
+        no_memory_name a.point a.asked
         (resolves_gave others later home s.world s.peers.calls k names a t.world t.peers.calls r);
-    told = refl;
+    content = refl;
   })
-  told_by a false is r = inl (record {
+  content_by a false is r = inl (record {
     outcome = a.outcome;
     comes = (
       record {
@@ -154,47 +155,47 @@ module _ (others : List Accepted → Type 0) (later : Marks → Marks → Type 0
       },
       is,
     );
-    told = refl;
+    content = refl;
   })
 
-  pub name_answered : (a : NameAnswer) (y : Answer) → y ≡ name_told t.world k a
+  pub name_answered : (a : NameAnswer) (y : Answer) → y ≡ name_answer t.world k a
       → Resolves others later home s.world s.peers.calls k names a t.world t.peers.calls
-      → NameTold others later home x s k names y t
+      → AnswersName others later home x s k names y t
   name_answered a y is r =
-      subst (λ (z : Answer). NameTold others later home x s k names z t) (sym is)
-      (told_by a (wants_memory a.outcome) refl r)
+      subst (λ (z : Answer). AnswersName others later home x s k names z t) (sym is)
+      (content_by a (wants_memory a.outcome) refl r)
 
   back_by : (a : NameAnswer) (b : Bool) → Gave a.asked s.peers.calls t.peers.calls
-      → TakenBack others later home (Call x (call.Resolve names)) s (in_vain t.world k
-      (if b then unanswered (in_vain t.world k (name_entry k a.point a.asked))
+      → GivesNoMemory others later home (Call x (call.Resolve names)) s (no_memory_entry t.world k
+      (if b then no_memory_with (no_memory_entry t.world k (name_entry k a.point a.asked))
       else record { body = reply_body.Outcome a.outcome; entry = name_entry k a.point a.asked }).entry) t
   back_by a true g =
-      subst (λ (e : Entry). TakenBack others later home (Call x (call.Resolve names)) s e t)
-      (sym (twice t.world k a.point a.asked)) (unserved_name a.point a.asked g)
-  back_by a false g = unserved_name a.point a.asked g
+      subst (λ (e : Entry). GivesNoMemory others later home (Call x (call.Resolve names)) s e t)
+      (sym (twice t.world k a.point a.asked)) (no_memory_name a.point a.asked g)
+  back_by a false g = no_memory_name a.point a.asked g
 
-  pub name_back : (a : NameAnswer) (y : Answer) → y ≡ name_told t.world k a
+  pub name_back : (a : NameAnswer) (y : Answer) → y ≡ name_answer t.world k a
       → Resolves others later home s.world s.peers.calls k names a t.world t.peers.calls
-      → TakenBack others later home (Call x (call.Resolve names)) s (in_vain t.world k y.entry) t
+      → GivesNoMemory others later home (Call x (call.Resolve names)) s (no_memory_entry t.world k y.entry) t
   name_back a y is r =
-      subst (λ (z : Answer). TakenBack others later home (Call x (call.Resolve names)) s (in_vain t.world k z.entry) t)
+      subst (λ (z : Answer). GivesNoMemory others later home (Call x (call.Resolve names)) s (no_memory_entry t.world k z.entry) t)
       (sym is)
       (back_by a (wants_memory a.outcome)
       (resolves_gave others later home s.world s.peers.calls k names a t.world t.peers.calls r))
 
-  -- memory was wanted before a peer gave anything
-  pub nothing_answered : (y : Answer) → y ≡ unanswered Plain → t.peers.calls ≡ s.peers.calls
-      → NameTold others later home x s k names y t
+  -- memory ran out before a peer gave anything
+  pub nothing_answered : (y : Answer) → y ≡ no_memory_with Plain → t.peers.calls ≡ s.peers.calls
+      → AnswersName others later home x s k names y t
   nothing_answered y is same =
-      subst (λ (z : Answer). NameTold others later home x s k names z t) (sym is)
+      subst (λ (z : Answer). AnswersName others later home x s k names z t) (sym is)
       (inr (record {
-        outcome = wanting Plain;
-        comes = unserved_name 0 None (none_gave s.peers.calls t.peers.calls same);
-        told = refl;
+        outcome = no_memory_outcome Plain;
+        comes = no_memory_name 0 None (none_gave s.peers.calls t.peers.calls same);
+        content = refl;
       }))
 
-  pub nothing_back : (y : Answer) → y ≡ unanswered Plain → t.peers.calls ≡ s.peers.calls
-      → TakenBack others later home (Call x (call.Resolve names)) s (in_vain t.world k y.entry) t
+  pub nothing_back : (y : Answer) → y ≡ no_memory_with Plain → t.peers.calls ≡ s.peers.calls
+      → GivesNoMemory others later home (Call x (call.Resolve names)) s (no_memory_entry t.world k y.entry) t
   nothing_back y is same =
-      subst (λ (z : Answer). TakenBack others later home (Call x (call.Resolve names)) s (in_vain t.world k z.entry) t)
-      (sym is) (unserved_name 0 None (none_gave s.peers.calls t.peers.calls same))
+      subst (λ (z : Answer). GivesNoMemory others later home (Call x (call.Resolve names)) s (no_memory_entry t.world k z.entry) t)
+      (sym is) (no_memory_name 0 None (none_gave s.peers.calls t.peers.calls same))

@@ -3,24 +3,24 @@ use Rattle.std.proofs.Common.{ℕ, ◌≤◌, Bool, true, false, if◌then◌els
 use Rattle.std.proofs.Common.{Result, Ok, Err, IfOk, refl, sym, subst, arith, length-append}
 use Rattle.std.specs.List.{AllByRecursion}
 use Rattle.td_cdr.specs.Marks.{Marks}
-use Rattle.td_cdr.specs.declared.memory.Memory.{Memory as Wanting}
-use Rattle.td_codes.specs.declared.reference.Ior.{Ior}
-use Rattle.td_fed.specs.Visiting.{Visited}
+use Rattle.td_cdr.specs.declared.memory.Memory.{Memory as OutOfMemory}
+use Rattle.td_typecode.specs.declared.reference.Ior.{Ior}
+use Rattle.td_fed.specs.Visiting.{WalksTo}
 use Rattle.td_iter.specs.Heads.{AreLimits, IsLimit, hop_count, link_follow_rule, match_card, return_card, search_card}
-use Rattle.td_lookup.specs.Telling.{HasLimits}
+use Rattle.td_lookup.specs.Answering.{HasLimits}
 use Rattle.td_ops.specs.declared.call.Query.{Query}
 use Rattle.td_register.specs.declared.history.Accepted.{Accepted}
 use Rattle.td_store.specs.declared.local.Local.{Local}
 use Rattle.td_trader.specs.Worlds.{View}
 use Rattle.td_walk.specs.Answers.{AnswersGathered, IsAnswer, is_limit, limit, limits_applied}
-use Rattle.td_walk.specs.Visits.{Reads, visit_of}
+use Rattle.td_walk.specs.Visits.{AnswersRead, visit_of}
 use Rattle.td_walk.specs.declared.answer.StepAnswer.{StepAnswer}
 use Rattle.td_walk.specs.declared.answer.SubAnswer.{SubAnswer}
 use Rattle.td_walk.specs.declared.gathering.Gathered.{Gathered}
 use Rattle.td_walk.specs.declared.trace.Address.{Address}
 use Rattle.td_walk.specs.declared.trace.TraceItem.{TraceItem}
 use Rattle.td_walk.specs.declared.trace.Visit.{Visit}
-use Rattle.td_walk_laws.specs.Walks.{Course, Start, Walk, asking, refused, repeat}
+use Rattle.td_query_walk.specs.Walks.{WalkState, Start, Walk, asking, refused, repeat}
 
 -- ---- limits
 
@@ -74,7 +74,7 @@ limits_are over given =
 
 -- ---- answers
 
-gathered : (l : Local) (r : Reads Gathered) (word : ℕ → ℕ) (a : SubAnswer) → AnswersGathered l r word a
+gathered : (l : Local) (r : AnswersRead Gathered) (word : ℕ → ℕ) (a : SubAnswer) → AnswersGathered l r word a
     → AreLimits a.limits
 gathered l (Ok r) word a h = subst AreLimits (sym h.limits) (limits_are l.effective.over r.0.given)
 gathered l (Err question) word a h = absurd h
@@ -87,15 +87,15 @@ answer_limits l answers word a h = gathered l (visit_of l answers) word a h
 -- ---- walks
 
 pub walk_limits : {World : Type 0} {Begins : World → (trader : ℕ) → Query → Start → World → Type 0}
-    {inside : World → (target : Ior) → Option ℕ} {s : Course World} {k : ℕ} {q : Query} {t : List TraceItem}
-    {v : Visit} {u : Course World} → Walk Begins inside s k q t v u → HasLimits v
+    {inside : World → (target : Ior) → Option ℕ} {s : WalkState World} {k : ℕ} {q : Query} {t : List TraceItem}
+    {v : Visit} {u : WalkState World} → Walk Begins inside s k q t v u → HasLimits v
 walk_limits (refused b) = tt
 walk_limits (repeat b) = record { few = omega arith; each = tt }
 walk_limits (asking {l = l} {answers = answers} {m = m} {a = a} b o steps ends) =
     answer_limits l answers m.words a ends.answer
 
 pub visited_limits : (others : List Accepted → Type 0) (later : Marks → Marks → Type 0) (home : Address)
-    (s u : Course (List View)) (k : ℕ) (q : Query) (before after : List TraceItem) (r : Result Visit Wanting)
-    → IfOk r (λ v. Visited others later home s k q before after v u) → IfOk r HasLimits
+    (s u : WalkState (List View)) (k : ℕ) (q : Query) (before after : List TraceItem) (r : Result Visit OutOfMemory)
+    → IfOk r (λ v. WalksTo others later home s k q before after v u) → IfOk r HasLimits
 visited_limits others later home s u k q before after (Ok v) h = walk_limits h.walk
 visited_limits others later home s u k q before after (Err m) h = tt

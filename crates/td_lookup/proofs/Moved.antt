@@ -5,7 +5,7 @@ use Rattle.td_cdr.specs.Names.{IsTraderName}
 use Rattle.td_fed.proofs.Staying.{goes-many, goes-name}
 use Rattle.td_fed.specs.Trails.{Goes}
 use Rattle.td_register.specs.declared.history.Accepted.{Accepted}
-use Rattle.td_reply.specs.Objects.{IsNamed}
+use Rattle.td_servant.specs.Objects.{IsNamed}
 use Rattle.td_trader.specs.Worlds.{View, name_at}
 
 module _ (others : List Accepted → Type 0) (later : Marks → Marks → Type 0) where

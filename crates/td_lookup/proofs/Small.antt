@@ -9,13 +9,13 @@ use Rattle.std.specs.Str.{bytes_eq}
 use Rattle.td_cdr.specs.Marks.{Marks}
 use Rattle.td_cdr.specs.Names.{identifier}
 use Rattle.td_cdr.specs.Seen.{is_among}
-use Rattle.td_cdr.specs.declared.memory.Memory.{Memory as Wanting}
+use Rattle.td_cdr.specs.declared.memory.Memory.{Memory as OutOfMemory}
 use Rattle.td_exceptions.specs.declared.exception.UserException.{UserException}
 use Rattle.td_exceptions.specs.declared.exception.UserException.TheVariants as user
-use Rattle.td_fed.specs.Visiting.{Visited}
+use Rattle.td_fed.specs.Visiting.{WalksTo}
 use Rattle.td_iter.specs.Heads.{AreSmallOffers}
 use Rattle.td_lookup.specs.Choosing.{chosen, chosen_of, named_in, property_named}
-use Rattle.td_lookup.specs.Telling.{GivesSmall}
+use Rattle.td_lookup.specs.Answering.{GivesSmall}
 use Rattle.td_ops.specs.declared.call.Query.{Query}
 use Rattle.td_register.specs.Causes.{Cause, raise_if, ◌otherwise◌}
 use Rattle.td_register.specs.Properties.{name_cause}
@@ -35,7 +35,7 @@ use Rattle.td_walk.specs.declared.trace.Address.{Address}
 use Rattle.td_walk.specs.declared.trace.TraceItem.{TraceItem}
 use Rattle.td_walk.specs.declared.trace.Visit.{Visit}
 use Rattle.td_walk.specs.declared.trace.Visit.TheVariants as visit
-use Rattle.td_walk_laws.specs.Walks.{Course}
+use Rattle.td_query_walk.specs.Walks.{WalkState}
 
 -- ---- the properties of other names
 
@@ -191,14 +191,14 @@ answer-small q offers g = by g.named_once
 
 -- ---- visits
 
-module _ (others : List Accepted → Type 0) (later : Marks → Marks → Type 0) (home : Address) (s u : Course (List View))
+module _ (others : List Accepted → Type 0) (later : Marks → Marks → Type 0) (home : Address) (s u : WalkState (List View))
     (k : ℕ) (q : Query) (before after : List TraceItem) where
-  gives-small : (v : Visit) → Visited others later home s k q before after v u → GivesSmall q v
+  gives-small : (v : Visit) → WalksTo others later home s k q before after v u → GivesSmall q v
   gives-small (visit.Refused o) h = tt
   gives-small (visit.Answered a max_list) h =
       answer-small q a.offers (walks_bounded others later home s u k q h.items a max_list h.walk)
 
-  pub visited_small : (r : Result Visit Wanting) → IfOk r (λ v. Visited others later home s k q before after v u)
+  pub visited_small : (r : Result Visit OutOfMemory) → IfOk r (λ v. WalksTo others later home s k q before after v u)
       → IfOk r (GivesSmall q)
   visited_small (Ok v) h = gives-small v h
   visited_small (Err m) h = tt

@@ -3,5 +3,5 @@ pub mod Examples
 pub mod Naming
 pub mod Querying
 pub mod Scenes
-pub mod Telling
-pub mod Unserved
+pub mod Answering
+pub mod NoMemory

@@ -1,17 +1,17 @@
 -- What is answered to names of links (OMG's Trading Object Service, interface Register, resolve).
 use Rattle.std.specs.Prelude.{◌≡◌, ℕ, List, Option, None, Some, Result}
 use Rattle.td_cdr.specs.Marks.{Marks}
-use Rattle.td_codes.specs.declared.reference.Ior.{Ior}
+use Rattle.td_typecode.specs.declared.reference.Ior.{Ior}
 use Rattle.td_fed.specs.Resolving.{Resolves}
 use Rattle.td_fed.specs.declared.resolving.NameAnswer.{NameAnswer}
 use Rattle.td_lookup.specs.Scenes.{Scene}
 use Rattle.td_ops.specs.declared.outcome.Outcome.{Outcome}
 use Rattle.td_register.specs.declared.history.Accepted.{Accepted}
-use Rattle.td_reply.specs.declared.entry.Entry.{Entry}
-use Rattle.td_reply.specs.declared.entry.Entry.TheVariants.{Asked, Point}
+use Rattle.td_servant.specs.declared.entry.Entry.{Entry}
+use Rattle.td_servant.specs.declared.entry.Entry.TheVariants.{Asked, Point}
 use Rattle.td_walk.specs.declared.fault.PeerFault.{PeerFault}
 use Rattle.td_walk.specs.declared.trace.Address.{Address}
-use Rattle.td_walk_laws.specs.Faults.{CountsFaults}
+use Rattle.td_query_walk.specs.Faults.{CountsFaults}
 
 -- what is noted of names that were looked up: what a register outside gave, where one was asked
 abbrev pub name_entry : (k point : ℕ) → Option (Result Ior PeerFault) → Entry

@@ -1,7 +1,7 @@
 -- What a session stands on when it serves a Request.
 use Rattle.std.specs.Prelude.{ℕ, List}
 use Rattle.td_iter.specs.Desks.{Live}
-use Rattle.td_reply.specs.Linking.{PeersSeen}
+use Rattle.td_servant.specs.Linking.{PeersSeen}
 use Rattle.td_trader.specs.Worlds.{View}
 
 -- the traders as they are seen, the iterators that the connection keeps, the peers outside, and the random words to

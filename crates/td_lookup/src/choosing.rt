@@ -88,7 +88,7 @@ fn choose_none_of_each(alloc: Global, offers: List<Offer>) -> Result<List<Offer>
 ///
 /// # Errors
 ///
-/// `Memory` for want of memory alone.
+/// `Memory` only when out of memory.
 #[tactic(auto, using(crate::proofs::Chosen::all_chosen))]
 pub fn choose_each(
     alloc: Global,
@@ -108,7 +108,7 @@ pub fn choose_each(
 ///
 /// # Errors
 ///
-/// `Memory` for want of memory alone.
+/// `Memory` only when out of memory.
 pub(crate) fn choose_in(
     alloc: Global,
     desired: &SpecifiedProps,

@@ -2,11 +2,11 @@
 
 ghost use Rattle.std.specs.Prelude.{◌≡◌, ◌<◌, ◌^◌, length, if◌then◌else◌, IfOk, IfSome, OnOk, OnErr};
 ghost use Rattle.td_cdr.specs.Names.{IsTraderName};
-ghost use Rattle.td_iter.specs.Desks.{added};
+ghost use Rattle.td_iter.specs.Desks.{with_added};
 ghost use Rattle.td_iter.specs.Heads.{AreLimits, AreSmallOffers, IsSmallReference};
 ghost use Rattle.td_iter.specs.declared.item.Item.TheVariants.{Offers};
 ghost use Rattle.td_iter.specs.declared.limits.TheConstants.{REPLY_START};
-ghost use Rattle.td_lookup.specs.Telling.{PutsFirst};
+ghost use Rattle.td_lookup.specs.Answering.{PutsFirst};
 ghost use Rattle.td_objects.specs.References.{IsAddress, offer_iterator};
 ghost use Rattle.td_walk.specs.declared.trace.Address.{Address as TheAddress};
 
@@ -14,7 +14,7 @@ use std::alloc::Global;
 use td_cdr::{List, Memory, Text, Writer};
 use td_iter::{Desk, Item, OfferIter};
 use td_objects::offer_iterator;
-use td_reply::DeskLabel;
+use td_servant::DeskLabel;
 use td_value::Offer;
 use td_walk::{Address, SubAnswer};
 
@@ -26,7 +26,7 @@ const MOST_OFFERS: usize = 4294967295;
 ///
 /// # Errors
 ///
-/// `Memory` for want of memory, or for more offers than an iterator can hold; the desk and what the writer holds are
+/// `Memory` when out of memory, or for more offers than an iterator can hold; the desk and what the writer holds are
 /// then as they were.
 pub(crate) fn put_offers(
     alloc: Global,
@@ -145,7 +145,7 @@ fn put_first(
 /// Keeps what is left, where there is any.
 fn keep(desk: &mut Desk, trader: Text, left: OfferIter, more: bool)
     requires { desk.old.1 < 2 ^ 63 }
-    ensures { desk.new ≡ (if more then added trader (Offers left) desk.old else desk.old) }
+    ensures { desk.new ≡ (if more then with_added trader (Offers left) desk.old else desk.old) }
 {
     if more {
         let _number = desk.add(trader, Item::Offers(left));

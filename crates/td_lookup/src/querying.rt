@@ -4,25 +4,26 @@ ghost use Rattle.std.specs.Prelude.{◌≡◌, ◌<◌, ◌≤◌, ◌^◌, leng
 ghost use Rattle.td_cdr.specs.Names.{IsTraderName};
 ghost use Rattle.td_iter.specs.declared.limits.TheConstants.{REPLY_START};
 ghost use Rattle.td_lookup.specs.Scenes.{scene};
-ghost use Rattle.td_lookup.specs.Telling.{GivesSmall, HasLimits, IfOutcome, QueryTold, TakenBack, TellsVisited};
-ghost use Rattle.td_lookup.specs.Telling.{walked};
+ghost use Rattle.td_lookup.specs.Answering.{GivesSmall, HasLimits, IfOutcome, AnswersQuery, GivesNoMemory};
+ghost use Rattle.td_lookup.specs.Answering.{TellsVisited};
+ghost use Rattle.td_lookup.specs.Answering.{walk_answer};
 ghost use Rattle.td_objects.specs.References.{IsAddress};
 ghost use Rattle.td_ops.specs.declared.call.Call.TheVariants as call;
-ghost use Rattle.td_reply.specs.Linking.{peers_seen};
-ghost use Rattle.td_reply.specs.Objects.{IsNamed};
-ghost use Rattle.td_reply.specs.declared.judging.Judged.TheVariants.{Call};
-ghost use Rattle.td_reply.specs.declared.objects.Object.{Object};
+ghost use Rattle.td_servant.specs.Linking.{peers_seen};
+ghost use Rattle.td_servant.specs.Objects.{IsNamed};
+ghost use Rattle.td_servant.specs.declared.judging.Judged.TheVariants.{Call};
+ghost use Rattle.td_servant.specs.declared.objects.Object.{Object};
 
 use crate::choosing::choose_in;
+use crate::no_memory::no_memory_with;
 use crate::offers::put_offers;
-use crate::unserved::unanswered;
 use std::alloc::Global;
 use td_cdr::{List, Memory, Shared, Text, Writer};
 use td_fed::visit;
 use td_iter::Desk;
 use td_ops::Query;
 use td_out::Words;
-use td_reply::{Answer, Entry, ReplyBody};
+use td_servant::{Answer, Entry, ReplyBody};
 use td_trader::Traders;
 use td_walk::{Address, Peers, Trace, Visit};
 
@@ -36,10 +37,10 @@ pub struct LookupQuery<'q> {
     pub query: &'q Shared<Query>,
 }
 
-/// What a query is answered with. The writer holds what stands before the body of a reply with a result; the first batch
-/// of offers is appended, and the desk keeps the others.
+/// What a query is answered with. The writer holds what stands before the body of a reply with a result; the first
+/// batch of offers is appended, and the desk keeps the others.
 ///
-/// Where memory is wanted the answer is NO_MEMORY, with the trace so far; its completion status is MAYBE where a mark
+/// When memory runs out the answer is NO_MEMORY, with the trace so far; its completion status is MAYBE where a mark
 /// was made.
 pub fn answer_query<T: Traders, P: Peers, W: Words>(
     alloc: Global,
@@ -58,14 +59,14 @@ pub fn answer_query<T: Traders, P: Peers, W: Words>(
     ensures same_peers { P.same peers.old peers.new }
     ensures same_words { W.same words.old words.new }
     ensures faults { P.faults peers.old ≤ P.faults peers.new }
-    ensures told { (x : Object) → x.trader ≡ asked.entry.trader
-        → QueryTold T.others T.later asked.entry.home.now x
+    ensures content { (x : Object) → x.trader ≡ asked.entry.trader
+        → AnswersQuery T.others T.later asked.entry.home.now x
         (scene (T.world traders.old) desk.old (peers_seen (P.calls peers.old) (P.faults peers.old))
         (W.word words.old)) asked.entry.trader asked.entry.query.now w.old result w.new
         (scene (T.world traders.new) desk.new (peers_seen (P.calls peers.new) (P.faults peers.new))
         (W.word words.new)) }
-    ensures taken_back { (x : Object) → x.trader ≡ asked.entry.trader
-        → IfOutcome result.body (TakenBack T.others T.later asked.entry.home.now
+    ensures if_no_memory { (x : Object) → x.trader ≡ asked.entry.trader
+        → IfOutcome result.body (GivesNoMemory T.others T.later asked.entry.home.now
         (Call x (call.Query asked.entry.query.now))
         (scene (T.world traders.old) desk.old (peers_seen (P.calls peers.old) (P.faults peers.old))
         (W.word words.old)) result.entry
@@ -84,7 +85,7 @@ pub fn answer_query<T: Traders, P: Peers, W: Words>(
     let visited = visit(
         alloc, traders, home, trader, query, peers, words, &mut trace,
     );
-    let told = tell_visit(
+    let content = tell_visit(
         alloc,
         home,
         traders.name(trader),
@@ -93,19 +94,19 @@ pub fn answer_query<T: Traders, P: Peers, W: Words>(
         desk,
         w,
     );
-    walked(trace, told)
+    walk_answer(trace, content)
 }
 
 /// The answer to a query with this trace.
-fn walked(trace: Trace, told: Result<ReplyBody, Memory>) -> Answer
-    ensures { result ≡ walked trace told }
+fn walk_answer(trace: Trace, content: Result<ReplyBody, Memory>) -> Answer
+    ensures { result ≡ walk_answer trace content }
 {
-    match told {
+    match content {
         Ok(body) => Answer {
             body,
             entry: Entry::Walk(trace),
         },
-        Err(_) => unanswered(Entry::Walk(trace)),
+        Err(_) => no_memory_with(Entry::Walk(trace)),
     }
 }
 
@@ -114,7 +115,7 @@ fn walked(trace: Trace, told: Result<ReplyBody, Memory>) -> Answer
 ///
 /// # Errors
 ///
-/// `Memory` for want of memory alone; the desk and what the writer holds are then as they were.
+/// `Memory` only when out of memory; the desk and what the writer holds are then as they were.
 fn tell_visit(
     alloc: Global,
     home: &Address,
@@ -130,7 +131,7 @@ fn tell_visit(
     requires small { IfOk visited (GivesSmall q.now) }
     requires start { length w.old.bytes ≡ REPLY_START }
     requires numbers { desk.old.1 < 2 ^ 63 }
-    ensures told { IfOk result (λ b.
+    ensures content { IfOk result (λ b.
         TellsVisited home.now name.now q.now visited w.old desk.old b w.new desk.new) }
     ensures unwritten { IfOk result (λ b. IfOutcome b (desk.new ≡ desk.old)) }
     ensures err { OnErr result ((desk.new ≡ desk.old) × (w.new.bytes ≡ w.old.bytes)) }

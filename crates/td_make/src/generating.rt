@@ -1,8 +1,8 @@
 //! The text of a generated file.
 
 ghost use Rattle.std.specs.Prelude.{◌≡◌, ◌≤◌, ◌++◌, IfOk, OnOk};
-ghost use Rattle.td_make.specs.Generated.{chord_after, cost, cost_line, first_offers, first_traders, generated};
-ghost use Rattle.td_make.specs.Generated.{heading, link_line, link_lines, next_after, offer_line, offer_lines};
+ghost use Rattle.td_make.specs.Generated.{chord_after, cost, cost_line, first_offers, first_traders, generated_file};
+ghost use Rattle.td_make.specs.Generated.{trader_heading, link_line, link_lines, next_after, offer_line, offer_lines};
 ghost use Rattle.td_make.specs.Generated.{offer_type, trader_lines};
 
 use std::alloc::Global;
@@ -102,7 +102,7 @@ fn put_links(text: &mut Vec<u8>, count: u32, trader: u32) -> Result<(), Memory>
 
 /// Appends the lines in front of a trader's offers.
 fn put_heading(text: &mut Vec<u8>, trader: u32) -> Result<(), Memory>
-    ensures { OnOk result (text.new.items ≡ text.old.items ++ heading trader) }
+    ensures { OnOk result (text.new.items ≡ text.old.items ++ trader_heading trader) }
 {
     put_counted(text, b"trader T", u64::from(trader))?;
     put(
@@ -137,7 +137,7 @@ fn put_traders(text: &mut Vec<u8>, count: u32) -> Result<(), Memory>
 fn put_file(text: &mut Vec<u8>, count: u32) -> Result<(), Memory>
     requires least { 1 ≤ count }
     requires most { count ≤ 64 }
-    ensures { OnOk result (text.new.items ≡ text.old.items ++ generated count) }
+    ensures { OnOk result (text.new.items ≡ text.old.items ++ generated_file count) }
 {
     put(text, b"address 127.0.0.1 2809\n")?;
     put_traders(text, count)
@@ -147,11 +147,11 @@ fn put_file(text: &mut Vec<u8>, count: u32) -> Result<(), Memory>
 ///
 /// # Errors
 ///
-/// `Memory` for want of memory alone.
+/// `Memory` only when out of memory.
 pub fn make_file(alloc: Global, count: u32) -> Result<Octets, Memory>
     requires least { 1 ≤ count }
     requires most { count ≤ 64 }
-    ensures { IfOk result (λ t. t ≡ generated count) }
+    ensures { IfOk result (λ t. t ≡ generated_file count) }
 {
     let mut text = Vec::new(alloc);
     put_file(&mut text, count)?;

@@ -8,10 +8,10 @@ use Rattle.td_make_file_laws.proofs.AtMost.{root-short, sub-short}
 use Rattle.td_make_file_laws.proofs.Going.{Becomes}
 use Rattle.td_make_laws.specs.Said.{cost_demanded}
 use Rattle.td_ops.specs.declared.call.Change.TheVariants.{AddType}
-use Rattle.td_register.specs.Causes.{Comes as StoreComes, unless as unless_cause}
+use Rattle.td_register.specs.Causes.{ChangeResult as StoreComes, unless as unless_cause}
 use Rattle.td_register.specs.Stores.{Store}
 use Rattle.td_types.specs.Adding.{new_type, passes_limit, with_type}
-use Rattle.td_types.specs.Calls.{Comes, add_fault, add_type, unless}
+use Rattle.td_types.specs.Calls.{RepositoryResult, add_fault, add_type, unless}
 use Rattle.td_types.specs.Conforming.{ancestors}
 use Rattle.td_types.specs.Interfaces.{interface_conforms}
 use Rattle.td_types.specs.Properties.{full_properties}
@@ -19,7 +19,7 @@ use Rattle.td_types.specs.Repository.{Repository, halves}
 use Rattle.td_types.specs.declared.entry.ServiceType.{ServiceType}
 use Rattle.td_types.specs.declared.fault.RepoFault.{RepoFault}
 use Rattle.td_types.specs.declared.fault.TypesFault.TheVariants.{Full}
-use Rattle.td_types.specs.declared.reply.TypesReply.TheVariants as told
+use Rattle.td_types.specs.declared.reply.TypesReply.TheVariants as content
 use Rattle.td_value.specs.declared.enumerations.PropertyMode.TheVariants.{Mandatory}
 use Rattle.td_value.specs.declared.structures.PropStruct.{PropStruct}
 
@@ -29,13 +29,13 @@ added : (r : Repository) (name if_name : List ℕ) (props : List PropStruct) (su
     → passes_limit (with_type r (new_type r name if_name props supers)) (new_type r name if_name props supers) ≡ false
     → add_type r name if_name props supers
     ≡ Ok (
-      told.Added (new_type r name if_name props supers).incarnation,
+      content.Added (new_type r name if_name props supers).incarnation,
       with_type r (new_type r name if_name props supers),
     )
 unfolding add_type
 added r name if_name props supers none within =
     let t : ServiceType = new_type r name if_name props supers in
-    let after : Comes = Ok (told.Added t.incarnation, with_type r t) in
+    let after : RepositoryResult = Ok (content.Added t.incarnation, with_type r t) in
     ap (λ (f : Option RepoFault). unless f (if passes_limit (with_type r t) t then Err Full else after)) none
     ∙ ap (λ (b : Bool). if b then Err Full else after) within
 
@@ -51,10 +51,10 @@ store-added s r name if_name props supers e none within = record {
   reply = acceptance s (AddType name if_name props supers);
   is =
       ap (λ (x : Repository). adds (add_type x name if_name props supers)) e
-      ∙ ap (λ (c : Comes). adds c) (added r name if_name props supers none within);
+      ∙ ap (λ (c : RepositoryResult). adds c) (added r name if_name props supers none within);
 }
   where
-    adds : Comes → StoreComes
+    adds : RepositoryResult → StoreComes
     adds c = unless_cause (types_cause c) (acceptance s (AddType name if_name props supers)) (with_types s c)
 
 -- ---- Base and Sub

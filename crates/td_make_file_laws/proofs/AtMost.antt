@@ -10,25 +10,25 @@ use Rattle.td_cdr.specs.Writing.{written_octets}
 use Rattle.td_cdr.specs.declared.order.Order.{Order}
 use Rattle.td_cdr.specs.declared.order.Order.TheVariants.{Big}
 use Rattle.td_cdr.specs.declared.value_fault.ValueFault.{ValueFault}
-use Rattle.td_codes.specs.Labels.{Layer}
-use Rattle.td_codes.specs.Layers.{code-ulong, value-ulong}
-use Rattle.td_codes.specs.References.{profile, reference}
+use Rattle.td_typecode.specs.Labels.{Layer}
+use Rattle.td_typecode.specs.Layers.{code-ulong, value-ulong}
+use Rattle.td_typecode.specs.References.{profile, reference}
 use Rattle.tc_graph.specs.declared.node.Node.{Node}
-use Rattle.td_codes.specs.Outermost.{outer, outer_layer, type_code}
-use Rattle.td_codes.specs.Values.{any_value, anys, left, values, code_values, graph_values}
-use Rattle.td_codes.specs.WritingCodes.{code_layer, code_piece, code_piece-layer, kind_piece, layer_pieces}
-use Rattle.td_codes.specs.declared.code.Any.{Any}
-use Rattle.td_codes.specs.declared.code.TypeCode.{TypeCode}
-use Rattle.td_codes.specs.declared.code.TypeCode.TheVariants as code
-use Rattle.td_codes.specs.declared.code.Value.{Value}
-use Rattle.td_codes.specs.declared.code.Value.TheVariants as value
-use Rattle.td_codes.specs.declared.kinds.CodeKind.TheVariants as kind
-use Rattle.td_codes.specs.declared.reference.Ior.{Ior}
+use Rattle.td_typecode.specs.Outermost.{outer, outer_layer, type_code}
+use Rattle.td_typecode.specs.Values.{any_value, anys, left, values, code_values, graph_values}
+use Rattle.td_typecode.specs.WritingCodes.{code_layer, code_piece, code_piece-layer, kind_piece, layer_pieces}
+use Rattle.td_typecode.specs.declared.code.Any.{Any}
+use Rattle.td_typecode.specs.declared.code.TypeCode.{TypeCode}
+use Rattle.td_typecode.specs.declared.code.TypeCode.TheVariants as code
+use Rattle.td_typecode.specs.declared.code.Value.{Value}
+use Rattle.td_typecode.specs.declared.code.Value.TheVariants as value
+use Rattle.td_typecode.specs.declared.kinds.CodeKind.TheVariants as kind
+use Rattle.td_typecode.specs.declared.reference.Ior.{Ior}
 use Rattle.td_ior.specs.Profiles.{front, made_octets, made_reference}
 use Rattle.td_ior.specs.declared.profile.Iiop.{Iiop}
 use Rattle.td_iter.proofs.Lengths.{number-length, octets-length}
-use Rattle.td_make_laws.specs.Said.{costing, item}
-use Rattle.td_forms.specs.Counted.{counted}
+use Rattle.td_make_laws.specs.Said.{cost_property, item}
+use Rattle.td_forms.specs.Counted.{label_number}
 use Rattle.td_value.specs.Enumerations.{property_mode_number}
 use Rattle.td_value.specs.Structures.{offer, prop_struct, property, type_struct}
 use Rattle.td_value.specs.declared.enumerations.PropertyMode.{PropertyMode}
@@ -121,7 +121,7 @@ decimal-short n most =
     let short : length (decimal n) ≤ n + 1 = length-decimal-le_succ n low in
     omega (arith, most, short)
 
-pub counted-short : (label : List ℕ) (n : ℕ) → n ≤ 64 → length (counted label n) ≤ length label + 65
+pub counted-short : (label : List ℕ) (n : ℕ) → n ≤ 64 → length (label_number label n) ≤ length label + 65
 counted-short label n most = omega (arith, length-append label (decimal n), decimal-short n most)
 
 body-short : (host key : List ℕ) (port : ℕ)
@@ -160,32 +160,32 @@ reference-short id host key port =
     (four-short 0) (octets-short octets)))
 
 key-short : (trader number : ℕ) → trader ≤ 64 → number ≤ 64
-    → length (counted (counted [] trader ++ codes ".") number) ≤ 131
+    → length (label_number (label_number [] trader ++ codes ".") number) ≤ 131
 key-short trader number t n =
     let front = counted-short [] trader t in
-    let dot = length-append (counted [] trader) (codes ".") in
-    let whole = counted-short (counted [] trader ++ codes ".") number n in
+    let dot = length-append (label_number [] trader) (codes ".") in
+    let whole = counted-short (label_number [] trader ++ codes ".") number n in
     omega (arith, front, dot, whole)
 
-costing-short : (amount : ℕ) → IsAtMost 26 (property.format.writes (costing amount))
+costing-short : (amount : ℕ) → IsAtMost 26 (property.format.writes (cost_property amount))
 costing-short amount =
-    then-short 12 14 (text.format.writes (codes "Cost")) (any_value.format.writes (costing amount).value)
+    then-short 12 14 (text.format.writes (codes "Cost")) (any_value.format.writes (cost_property amount).value)
     (text-short (codes "Cost")) (any-short 15 amount)
 
 pub offer-short : (trader number amount : ℕ) → trader ≤ 64 → number ≤ 64
-    → length (offer.format.writes (record { reference = item trader number; properties = costing amount ∷ [] }) Big 0)
+    → length (offer.format.writes (record { reference = item trader number; properties = cost_property amount ∷ [] }) Big 0)
     ≤ 1048576
 offer-short trader number amount t n =
-    let key : List ℕ = counted (counted [] trader ++ codes ".") number in
+    let key : List ℕ = label_number (label_number [] trader ++ codes ".") number in
     let first : ℕ = (8 + 12) + (7 + (7 + (7 + length (made_octets (codes "h") 9 key 0)))) in
     let octets = made-short (codes "h") key 9 in
     let keyed = key-short trader number t n in
     let whole : IsAtMost (first + 33)
-    (offer.format.writes (record { reference = item trader number; properties = costing amount ∷ [] })) =
+    (offer.format.writes (record { reference = item trader number; properties = cost_property amount ∷ [] })) =
     then-short first 33 (reference.format.writes (item trader number))
-    ((sequence property).format.writes (costing amount ∷ [])) (reference-short (codes "IDL:Item:1.0") (codes "h") key 9)
-    (one-item-short 26 property (costing amount) (costing-short amount)) in
-    bounded (length (offer.format.writes (record { reference = item trader number; properties = costing amount ∷ [] })
+    ((sequence property).format.writes (cost_property amount ∷ [])) (reference-short (codes "IDL:Item:1.0") (codes "h") key 9)
+    (one-item-short 26 property (cost_property amount) (costing-short amount)) in
+    bounded (length (offer.format.writes (record { reference = item trader number; properties = cost_property amount ∷ [] })
     Big 0)) (length (made_octets (codes "h") 9 key 0)) (length key) (whole.short Big 0) octets keyed
   where
     bounded : (whole octets key : ℕ) → whole ≤ ((8 + 12) + (7 + (7 + (7 + octets)))) + 33

@@ -8,11 +8,12 @@ use Rattle.std.proofs.lemmas.Slice.Eq.{bytes_eq-Decides}
 use Rattle.std.specs.List.{list_any}
 use Rattle.std.specs.Str.{bytes_eq}
 use Rattle.td_file.specs.Openings.{is_known, is_missing, missing_among, missing_in, names_in, or_later}
-use Rattle.td_lines.specs.declared.entry.Entry.{Entry}
+use Rattle.td_lines.specs.declared.entry.FileEntry.{FileEntry}
 use Rattle.td_lines.specs.declared.entry.Numbered.{Numbered}
 use Rattle.td_lines.specs.declared.entry.TraderScript.{TraderScript}
 use Rattle.td_make.specs.Generated.{chord_after, next_after}
-use Rattle.td_make_laws.specs.Said.{Asked, asked, entries_in, first_names, head_entries, link_entries, link_entry}
+use Rattle.td_make_laws.specs.Said.{PlainScript, plain_script, entries_in, first_names, head_entries, link_entries}
+use Rattle.td_make_laws.specs.Said.{link_entry}
 use Rattle.td_make_laws.specs.Said.{name_of, offer_entries, ring_trader, ring_traders}
 
 -- ---- the names that the file has
@@ -56,7 +57,7 @@ name-among (suc done) trader least most =
 
 -- ---- entries that lack no trader
 
-any-free : (f : Entry → Bool) (xs ys : List Entry) → list_any f xs ≡ false → list_any f ys ≡ false
+any-free : (f : FileEntry → Bool) (xs ys : List FileEntry) → list_any f xs ≡ false → list_any f ys ≡ false
     → list_any f (xs ++ ys) ≡ false
 any-free f xs ys d e = list_any-append f xs ys ∙ (rw (d, e) refl)
 
@@ -72,13 +73,13 @@ none-among all (one ∷ others) h = by_test (is_missing all one.entry) h (none-a
     by_test false h more = more h
 
 -- what is asked of a trader lacks a trader
-abbrev lacks : List TraderScript → Asked → Bool
+abbrev lacks : List TraderScript → PlainScript → Bool
 lacks all a = list_any (is_missing all) a.entries
 
-none-in : (all ts : List TraderScript) → list_any (lacks all) (map asked ts) ≡ false → missing_in all ts ≡ None
+none-in : (all ts : List TraderScript) → list_any (lacks all) (map plain_script ts) ≡ false → missing_in all ts ≡ None
 none-in all [] h = refl
 none-in all (t ∷ ts) h =
-    by_test (lacks all (asked t)) (list_any (lacks all) (map asked ts)) h (none-among all t.entries) (none-in all ts)
+    by_test (lacks all (plain_script t)) (list_any (lacks all) (map plain_script ts)) h (none-among all t.entries) (none-in all ts)
   where
     by_test : (a b : Bool) → (a || b) ≡ false → (a ≡ false → missing_among all t.entries ≡ None)
         → (b ≡ false → missing_in all ts ≡ None)
@@ -123,6 +124,6 @@ module _ (count : ℕ) (all : List TraderScript) (least : 1 ≤ count) (names : 
       ∙ (ap (λ (b : Bool). b || (lacks all (ring_trader count (suc done)) || false)) (traders-free done)
       ∙ ap (λ (b : Bool). b || false) (trader-free (suc done)))
 
-  pub none-missing : map asked all ≡ ring_traders count count → missing_in all all ≡ None
+  pub none-missing : map plain_script all ≡ ring_traders count count → missing_in all all ≡ None
   none-missing says =
-      none-in all all (ap (λ (asks : List Asked). list_any (lacks all) asks) says ∙ traders-free count)
+      none-in all all (ap (λ (asks : List PlainScript). list_any (lacks all) asks) says ∙ traders-free count)

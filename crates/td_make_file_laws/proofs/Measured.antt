@@ -1,10 +1,11 @@
 -- How long a generated file is at most.
 use Rattle.std.proofs.Common.{◌≡◌, ℕ, zero, suc, ◌+◌, ◌*◌, ◌%◌, nat_eq, ◌<◌, ◌≤◌, Bool, true, false, if◌then◌else◌}
 use Rattle.std.proofs.Common.{List, [], ◌∷◌, ◌++◌, codes, length, refl, arith, length-append}
-use Rattle.td_make.specs.Generated.{chord_after, cost, cost_line, first_offers, first_traders, generated, heading}
+use Rattle.td_make.specs.Generated.{chord_after, cost, cost_line, first_offers, first_traders, generated_file}
+use Rattle.td_make.specs.Generated.{trader_heading}
 use Rattle.td_make.specs.Generated.{link_line, link_lines, next_after, offer_line, offer_lines, offer_type, trader_lines}
 use Rattle.td_make_file_laws.proofs.AtMost.{counted-short}
-use Rattle.td_forms.specs.Counted.{counted}
+use Rattle.td_forms.specs.Counted.{label_number}
 
 joined : (m n : ℕ) (xs ys : List ℕ) → length xs ≤ m → length ys ≤ n → length (xs ++ ys) ≤ m + n
 joined m n xs ys a b = omega (arith, a, b, length-append xs ys)
@@ -19,8 +20,8 @@ offer-lines-short trader number t n =
     let reference = counted-short (codes " ref:IDL:Item:1.0,h,9,") trader t in
     let dotted = counted-short (codes ".") number n in
     let amount = counted-short (codes "with ulong Cost ") (cost trader number) (omega arith) in
-    let target : List ℕ = counted (codes " ref:IDL:Item:1.0,h,9,") trader in
-    let dot : List ℕ = counted (codes ".") number in
+    let target : List ℕ = label_number (codes " ref:IDL:Item:1.0,h,9,") trader in
+    let dot : List ℕ = label_number (codes ".") number in
     let typed : List ℕ = codes "offer " ++ offer_type number in
     let line : length (offer_line trader number) ≤ (((6 + 4) + 87) + 66) + 1 =
     joined (((6 + 4) + 87) + 66) 1 (typed ++ target ++ dot) (codes "\n")
@@ -29,7 +30,7 @@ offer-lines-short trader number t n =
     dotted)
     (omega arith) in
     let costs : length (cost_line trader number) ≤ 81 + 1 =
-    joined 81 1 (counted (codes "with ulong Cost ") (cost trader number)) (codes "\n") amount (omega arith) in
+    joined 81 1 (label_number (codes "with ulong Cost ") (cost trader number)) (codes "\n") amount (omega arith) in
     let whole : length (offer_lines trader number) ≤ 164 + 82 =
     joined 164 82 (offer_line trader number) (cost_line trader number) line costs in
     omega (arith, whole)
@@ -43,13 +44,13 @@ offers-short trader (suc done) t n =
 
 link-short : (label : List ℕ) (trader : ℕ) → trader ≤ 64 → length (link_line label trader) ≤ length label + 90
 link-short label trader t =
-    omega (arith, counted-short label trader t, length-append (counted label trader) (codes " always always\n"))
+    omega (arith, counted-short label trader t, length-append (label_number label trader) (codes " always always\n"))
 
 trader-short : (count trader : ℕ) → 1 ≤ count → count ≤ 64 → trader ≤ 64 → length (trader_lines count trader) ≤ 4000
 trader-short count trader least ring t =
     let first = counted-short (codes "trader T") trader t in
-    let begun : length (heading trader) ≤ 73 + 60 =
-    joined 73 60 (counted (codes "trader T") trader)
+    let begun : length (trader_heading trader) ≤ 73 + 60 =
+    joined 73 60 (label_number (codes "trader T") trader)
     (codes "\ntype Base -\nprop mandatory ulong Cost\ntype Sub - Base\n") first (omega arith) in
     let offers : length (first_offers trader 10) ≤ 3000 = offers-short trader 10 t (omega arith) in
     let next = link-short (codes "link next T") (next_after count trader) (omega (arith, least, ring)) in
@@ -58,8 +59,8 @@ trader-short count trader least ring t =
     joined 101 102 (link_line (codes "link next T") (next_after count trader))
     (link_line (codes "link chord T") (chord_after count trader)) next chord in
     let whole : length (trader_lines count trader) ≤ (133 + 3000) + 203 =
-    joined (133 + 3000) 203 (heading trader ++ first_offers trader 10) (link_lines count trader)
-    (joined 133 3000 (heading trader) (first_offers trader 10) begun offers) links in
+    joined (133 + 3000) 203 (trader_heading trader ++ first_offers trader 10) (link_lines count trader)
+    (joined 133 3000 (trader_heading trader) (first_offers trader 10) begun offers) links in
     omega (arith, whole)
 
 traders-short : (count done : ℕ) → 1 ≤ count → count ≤ 64 → done ≤ 64 → length (first_traders count done) ≤ done * 4000
@@ -69,7 +70,7 @@ traders-short count (suc done) least ring t =
     let one = trader-short count (suc done) least ring t in
     omega (arith, before, one, length-append (first_traders count done) (trader_lines count (suc done)))
 
-pub generated-short : (count : ℕ) → 1 ≤ count → count ≤ 64 → length (generated count) ≤ 67108864
+pub generated-short : (count : ℕ) → 1 ≤ count → count ≤ 64 → length (generated_file count) ≤ 67108864
 generated-short count least ring =
     omega (
       arith,

@@ -4,7 +4,7 @@ use Rattle.std.proofs.Common.{◌++◌, codes, length, Option, Some, None, refl,
 use Rattle.std.proofs.lemmas.Bool.{lt-leb}
 use Rattle.td_admin.specs.Links.{add_link_cause, name_cause, rules_cause, target_cause}
 use Rattle.td_changes.specs.Applying.{comes_to}
-use Rattle.td_codes.specs.declared.reference.Ior.{Ior}
+use Rattle.td_typecode.specs.declared.reference.Ior.{Ior}
 use Rattle.td_exceptions.specs.declared.exception.UserException.TheVariants.{InvalidLookupRef}
 use Rattle.td_file.specs.Openings.{link_to}
 use Rattle.td_ior.proofs.Profiles.{made-found}
@@ -15,7 +15,7 @@ use Rattle.td_make_file_laws.proofs.AtMost.{counted-short, made-short}
 use Rattle.td_make_file_laws.proofs.Going.{Becomes, Goes, local_address}
 use Rattle.td_make_laws.specs.Said.{link_entry, name_of}
 use Rattle.td_objects.specs.References.{lookup_reference, register_reference}
-use Rattle.td_ops.specs.declared.outcome.Reply.TheVariants as told
+use Rattle.td_ops.specs.declared.outcome.Reply.TheVariants as content
 use Rattle.td_register.proofs.Otherwise.{neither}
 use Rattle.td_register.specs.Causes.{Cause, limit_if, raise_if, unless, ◌otherwise◌}
 use Rattle.td_register.specs.Stores.{Store}
@@ -86,9 +86,9 @@ module _ (s : Store) (name : List ℕ) (trader : ℕ) (most : trader ≤ 64) (fr
       (record s { links = s.links ++ record_of name trader ∷ [] })
   unfolding comes_to
   link-added = record {
-    reply = told.Nothing;
+    reply = content.Nothing;
     is =
-        ap (λ (c : Cause). unless c told.Nothing (record s { links = s.links ++ record_of name trader ∷ [] })) none;
+        ap (λ (c : Cause). unless c content.Nothing (record s { links = s.links ++ record_of name trader ∷ [] })) none;
   }
 
 -- both links of a trader that has none

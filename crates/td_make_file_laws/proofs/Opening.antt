@@ -4,7 +4,7 @@ use Rattle.std.proofs.Common.{codes, refl, sym, ap, subst, ◌∙◌, arith}
 use Rattle.std.specs.List.{AllByRecursion}
 use Rattle.td_cdr.specs.Reading.{◌>>=◌}
 use Rattle.td_file.specs.Openings.{all_traders, bounds, new_store, opening_store, store_after, trader_of}
-use Rattle.td_lines.specs.declared.entry.Entry.{Entry}
+use Rattle.td_lines.specs.declared.entry.FileEntry.{FileEntry}
 use Rattle.td_lines.specs.declared.entry.Refused.{Refused}
 use Rattle.td_lines.specs.declared.entry.TraderScript.{TraderScript}
 use Rattle.td_make.specs.Generated.{chord_after, next_after}
@@ -12,12 +12,12 @@ use Rattle.td_make_file_laws.proofs.Adding.{base-added, base_alone, both_types, 
 use Rattle.td_make_file_laws.proofs.Exporting.{AreOffered, offered}
 use Rattle.td_make_file_laws.proofs.Going.{Goes, entries-go, goes-joined, local_address}
 use Rattle.td_make_file_laws.proofs.Meeting.{both-added, record_of}
-use Rattle.td_make_laws.specs.Said.{Asked, asked, entries_in, first_names, head_entries, link_entries}
+use Rattle.td_make_laws.specs.Said.{PlainScript, plain_script, entries_in, first_names, head_entries, link_entries}
 use Rattle.td_make_laws.specs.Said.{name_of, offer_entries, ring_trader, ring_traders, type_entries}
 use Rattle.td_register.specs.Stores.{Store}
-use Rattle.td_trader.specs.PlainTraders.{PlainTrader, opened}
+use Rattle.td_trader.specs.PlainTraders.{PlainTrader, new_trader}
 use Rattle.td_policy.specs.declared.attributes.Attributes.{Attributes}
-use Rattle.td_types.specs.Repository.{Declared}
+use Rattle.td_types.specs.Repository.{InterfaceBases}
 
 -- ---- a trader's entries
 
@@ -66,30 +66,30 @@ module _ (count trader : ℕ) (least : 1 ≤ count) (ring : count ≤ 64) (most 
   trader-goes t named plain says = (
     linked,
     ap (λ (n : List ℕ). store_after local_address (new_store local_address n t.interfaces) t.entries) named
-        ∙ (ap (λ (ds : Declared). store_after local_address (new_store local_address name ds) t.entries) plain
+        ∙ (ap (λ (ds : InterfaceBases). store_after local_address (new_store local_address name ds) t.entries) plain
         ∙ entries-go local_address t.entries first linked
-        (subst (λ (es : List Entry). Goes local_address first es linked) (sym says) all-go)),
+        (subst (λ (es : List FileEntry). Goes local_address first es linked) (sym says) all-go)),
   )
 
 -- ---- all traders
 
 -- a trader that is asked this opens, under its name
-abbrev pub IsOpened : Asked → Type 0
-IsOpened a = (t : TraderScript) → asked t ≡ a
+abbrev pub IsOpened : PlainScript → Type 0
+IsOpened a = (t : TraderScript) → plain_script t ≡ a
     → (p : PlainTrader) × (trader_of local_address t ≡ Ok p) × (p.name ≡ t.name)
 
 ring-opens : (count trader : ℕ) → 1 ≤ count → count ≤ 64 → trader ≤ 64 → IsOpened (ring_trader count trader)
 ring-opens count trader least ring most t says =
-    let named : t.name ≡ name_of trader = ap (λ (a : Asked). a.name) says in
+    let named : t.name ≡ name_of trader = ap (λ (a : PlainScript). a.name) says in
     let opens =
-    trader-goes count trader least ring most (name_of trader) t named (ap (λ (a : Asked). a.interfaces) says)
-    (ap (λ (a : Asked). a.entries) says) in (
-      opened t.name opens.0 bounds,
-      ap (λ (r : Result Store Refused). r >>= λ s. Ok (opened t.name s bounds)) opens.1,
+    trader-goes count trader least ring most (name_of trader) t named (ap (λ (a : PlainScript). a.interfaces) says)
+    (ap (λ (a : PlainScript). a.entries) says) in (
+      new_trader t.name opens.0 bounds,
+      ap (λ (r : Result Store Refused). r >>= λ s. Ok (new_trader t.name s bounds)) opens.1,
       refl,
     )
 
-all-joined : (P : Asked → Type 0) (xs : List Asked) (x : Asked) → AllByRecursion P xs → P x
+all-joined : (P : PlainScript → Type 0) (xs : List PlainScript) (x : PlainScript) → AllByRecursion P xs → P x
     → AllByRecursion P (xs ++ x ∷ [])
 all-joined P [] x a h = (h, tt)
 all-joined P (y ∷ xs) x a h = (a.0, all-joined P xs x a.1 h)
@@ -106,7 +106,7 @@ pub record AreOpened (ts : List TraderScript) : Type 0 where
   pub is : all_traders local_address ts ≡ Ok traders
   pub names : map (λ (p : PlainTrader). p.name) traders ≡ map (λ (t : TraderScript). t.name) ts
 
-each-opened : (ts : List TraderScript) → AllByRecursion IsOpened (map asked ts) → AreOpened ts
+each-opened : (ts : List TraderScript) → AllByRecursion IsOpened (map plain_script ts) → AreOpened ts
 each-opened [] all = record { traders = []; is = refl; names = refl }
 each-opened (t ∷ ts) all =
     let first = all.0 t refl in
@@ -121,8 +121,8 @@ each-opened (t ∷ ts) all =
           ∙ ap (λ (ns : List (List ℕ)). t.name ∷ ns) others.names;
     }
 
-pub ring-opened : (count : ℕ) (ts : List TraderScript) → 1 ≤ count → count ≤ 64 → map asked ts ≡ ring_traders count count
+pub ring-opened : (count : ℕ) (ts : List TraderScript) → 1 ≤ count → count ≤ 64 → map plain_script ts ≡ ring_traders count count
     → AreOpened ts
 ring-opened count ts least ring says =
     each-opened ts
-    (subst (λ (asks : List Asked). AllByRecursion IsOpened asks) (sym says) (all-open count count least ring ring))
+    (subst (λ (asks : List PlainScript). AllByRecursion IsOpened asks) (sym says) (all-open count count least ring ring))

@@ -7,12 +7,12 @@ use Rattle.td_lines.specs.Scripts.{script_of}
 use Rattle.td_lines.specs.declared.entry.Home.{Home}
 use Rattle.td_lines.specs.declared.entry.Refused.{Refused}
 use Rattle.td_lines.specs.declared.entry.Script.{Script}
-use Rattle.td_make.specs.Generated.{generated}
+use Rattle.td_make.specs.Generated.{generated_file}
 use Rattle.td_make_file_laws.proofs.Going.{local_address}
 use Rattle.td_make_file_laws.proofs.Knowing.{none-missing}
 use Rattle.td_make_file_laws.proofs.Measured.{generated-short}
 use Rattle.td_make_file_laws.proofs.Opening.{AreOpened, ring-opened}
-use Rattle.td_make_file_laws.specs.Opened.{Opens}
+use Rattle.td_make_file_laws.specs.Opened.{GeneratedOpens}
 use Rattle.td_make_laws.specs.Said.{SaysRing, local_host}
 use Rattle.td_trader.specs.PlainTraders.{PlainTrader}
 
@@ -29,10 +29,10 @@ module _ (s : Script) (traders : List PlainTrader) (refused : s.refused ≡ None
       ∙ (ap (λ (f : Option Refused). unless_refused (later_refusal f (missing_in s.traders s.traders)) whole) refused
       ∙ ap (λ (m : Option ℕ). unless_refused (later_refusal None m) whole) missing))
 
-pub opens : (count : ℕ) → 1 ≤ count → count ≤ 64 → SaysRing count (script_of (generated count)) → Opens count
+pub opens : (count : ℕ) → 1 ≤ count → count ≤ 64 → SaysRing count (script_of (generated_file count)) → GeneratedOpens count
 unfolding opening_of
 opens count least most says =
-    let s : Script = script_of (generated count) in
+    let s : Script = script_of (generated_file count) in
     let each : AreOpened s.traders = ring-opened count s.traders least most says.traders in
     let missing : missing_in s.traders s.traders ≡ None =
     none-missing count s.traders least says.names says.traders in

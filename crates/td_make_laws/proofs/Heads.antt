@@ -4,13 +4,13 @@ use Rattle.std.specs.Fmt.{digits}
 use Rattle.td_forms.specs.Values.{item_value}
 use Rattle.td_ior.specs.Texts.{cut_last, parts_of}
 use Rattle.td_lines.proofs.OnLiterals.{types_on_literals}
-use Rattle.td_lines.specs.Drafts.{closed, nothing_yet}
+use Rattle.td_lines.specs.Drafts.{close_entry, nothing_yet}
 use Rattle.td_lines.specs.Offered.{with_new_offer, with_offer, with_value}
 use Rattle.td_lines.specs.Words.{two_and_text}
 use Rattle.td_lines.specs.declared.entry.Numbered.{Numbered}
 use Rattle.td_lines.specs.declared.entry.TraderScript.{TraderScript}
 use Rattle.std.specs.Str.Lines.{lines}
-use Rattle.td_make.specs.Generated.{first_offers, heading}
+use Rattle.td_make.specs.Generated.{first_offers, trader_heading}
 use Rattle.td_make_laws.proofs.Passing.{passed}
 use Rattle.td_make_laws.proofs.Tables.{Upto}
 use Rattle.td_make_laws.proofs.Types.{Draft, OpenOffer}
@@ -18,7 +18,7 @@ use Rattle.td_make_laws.specs.Said.{entries_in, first_names, head_entries, local
 
 -- a trader, its types and its offers
 abbrev pub head : (trader : ℕ) → List ℕ
-head trader = heading trader ++ first_offers trader 10
+head trader = trader_heading trader ++ first_offers trader 10
 
 -- what was said in front of the next trader
 abbrev pub between : List (List ℕ) → List TraderScript → TraderScript → (typed : Bool) → Draft
@@ -65,7 +65,7 @@ pub record HeadIsRead (done n : ℕ) (before : List TraderScript) (last : Trader
   pub offer : OpenOffer
   pub is : passed n (between (first_names done) before (last_of done last) typed) (lines (head (suc done)))
       ≡ Some (within done (all_said done before last) entries offer)
-  pub says : entries_in (closed (within done (all_said done before last) entries offer)).entries
+  pub says : entries_in (close_entry (within done (all_said done before last) entries offer)).entries
       ≡ head_entries (suc done)
 
 abbrev pub IsHeadRead : (done : ℕ) → Type 0

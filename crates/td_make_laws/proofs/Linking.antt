@@ -2,7 +2,7 @@
 use Rattle.std.proofs.Common.{◌≡◌, ℕ, suc, ◌+◌, true, List, codes, Some, refl}
 use Rattle.std.specs.Fmt.{digits}
 use Rattle.td_lines.proofs.OnLiterals.{links_on_literals}
-use Rattle.td_lines.specs.Drafts.{closed, has_trader, with_entry}
+use Rattle.td_lines.specs.Drafts.{close_entry, has_trader, with_entry}
 use Rattle.td_lines.specs.Linked.{inside_link}
 use Rattle.td_value.specs.declared.enumerations.FollowOption.TheVariants.{Always}
 use Rattle.std.specs.Str.Lines.{lines}
@@ -13,12 +13,12 @@ use Rattle.td_make_laws.proofs.Types.{Draft}
 use Rattle.td_make_laws.specs.Said.{name_of}
 
 abbrev pub linked : Draft → ℕ → (name : List ℕ) → (trader : ℕ) → Draft
-linked d n name trader = with_entry (closed d) (n + 1) (inside_link name (name_of trader) Always Always)
+linked d n name trader = with_entry (close_entry d) (n + 1) (inside_link name (name_of trader) Always Always)
 
 -- where there is a trader, a line of this label links it to that one
 abbrev pub IsLinkRead : (label name : List ℕ) → (trader : ℕ) → Type 0
 IsLinkRead label name trader =
-    (n : ℕ) (d : Draft) → has_trader (closed d) ≡ true
+    (n : ℕ) (d : Draft) → has_trader (close_entry d) ≡ true
     → passed n d (lines (link_line label trader)) ≡ Some (linked d n name trader)
 
 abbrev pub IsNextRead : (trader : ℕ) → Type 0

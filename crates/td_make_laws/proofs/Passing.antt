@@ -3,11 +3,11 @@ use Rattle.std.proofs.Common.{◌≡◌, ℕ, ◌+◌, List, [], ◌∷◌, ◌+
 use Rattle.std.proofs.Common.{arith}
 use Rattle.std.specs.Str.Lines.{lines}
 use Rattle.td_lines.specs.Scripts.{go_on, rest_of_file}
-use Rattle.td_lines.specs.Steps.{Step, goes, stops, with_line}
+use Rattle.td_lines.specs.Steps.{LineStep, goes, stops, with_line}
 use Rattle.td_make_laws.proofs.Joined.{Ends, lines-joined}
 use Rattle.td_make_laws.proofs.Types.{Draft}
 
-abbrev pub further : Step → (Draft → Option Draft) → Option Draft
+abbrev pub further : LineStep → (Draft → Option Draft) → Option Draft
 further (goes d) f = f d
 further (stops d refused) f = None
 
@@ -24,7 +24,7 @@ passes [] ys n d e h =
     ap (λ (m : ℕ). rest_of_file m d ys) count ∙ ap (λ (f : Draft). rest_of_file (n + 0) f ys) same
 passes (x ∷ xs) ys n d e h = by_step (with_line d (n + 1) x) (λ m f. passes xs ys m f e) h
   where
-    by_step : (s : Step)
+    by_step : (s : LineStep)
         → ((m : ℕ) (f : Draft) → passed m f xs ≡ Some e
         → rest_of_file m f (xs ++ ys) ≡ rest_of_file (m + length xs) e ys)
         → further s (λ more. passed (n + 1) more xs) ≡ Some e

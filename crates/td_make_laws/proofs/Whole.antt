@@ -7,14 +7,15 @@ use Rattle.std.proofs.lemmas.Bool.{ne_eqb}
 use Rattle.std.proofs.lemmas.List.{length-append}
 use Rattle.std.specs.Str.Lines.{lines}
 use Rattle.td_lines.proofs.OnLiterals.{address_on_literals}
-use Rattle.td_lines.specs.Drafts.{closed, has_trader, nothing_yet}
+use Rattle.td_lines.specs.Drafts.{close_entry, has_trader, nothing_yet}
 use Rattle.td_lines.specs.Heads.{last_trader}
 use Rattle.td_lines.specs.Scripts.{rest_of_file, script_of}
-use Rattle.td_lines.specs.declared.entry.Entry.{Entry}
+use Rattle.td_lines.specs.declared.entry.FileEntry.{FileEntry}
 use Rattle.td_lines.specs.declared.entry.Numbered.{Numbered}
 use Rattle.td_lines.specs.declared.entry.Script.{Script}
 use Rattle.td_lines.specs.declared.entry.TraderScript.{TraderScript}
-use Rattle.td_make.specs.Generated.{chord_after, first_offers, first_traders, generated, heading, link_line, next_after}
+use Rattle.td_make.specs.Generated.{chord_after, first_offers, first_traders, generated_file, trader_heading, link_line}
+use Rattle.td_make.specs.Generated.{next_after}
 use Rattle.td_make.specs.Generated.{cost, cost_line, offer_line, offer_lines, trader_lines}
 use Rattle.td_make_laws.proofs.Heads.{HeadIsRead, IsHeadRead, all_said, between, head, last_of, within}
 use Rattle.td_make_laws.proofs.Joined.{Ends, ends-joined}
@@ -22,8 +23,9 @@ use Rattle.td_make_laws.proofs.Linking.{IsLinkRead, linked}
 use Rattle.td_make_laws.proofs.Passing.{passed, text-passes}
 use Rattle.td_make_laws.proofs.Tables.{Upto, at}
 use Rattle.td_make_laws.proofs.Types.{Draft}
-use Rattle.td_forms.specs.Counted.{counted}
-use Rattle.td_make_laws.specs.Said.{Asked, SaysRing, asked, entries_in, first_names, head_entries, link_entries}
+use Rattle.td_forms.specs.Counted.{label_number}
+use Rattle.td_make_laws.specs.Said.{PlainScript, SaysRing, plain_script, entries_in, first_names, head_entries}
+use Rattle.td_make_laws.specs.Said.{link_entries}
 use Rattle.td_make_laws.specs.Said.{link_entry, name_of, ring_traders}
 
 -- ---- ends of texts
@@ -36,13 +38,13 @@ always = record { front = codes " always always"; is = refl }
 
 head-ends : (trader : ℕ) → Ends (head trader)
 head-ends trader =
-    ends-joined (heading trader) (first_offers trader 10)
+    ends-joined (trader_heading trader) (first_offers trader 10)
     (ends-joined (first_offers trader 9) (offer_lines trader 10)
     (ends-joined (offer_line trader 10) (cost_line trader 10)
-    (ends-joined (counted (codes "with ulong Cost ") (cost trader 10)) (codes "\n") feed)))
+    (ends-joined (label_number (codes "with ulong Cost ") (cost trader 10)) (codes "\n") feed)))
 
 link-ends : (label : List ℕ) (trader : ℕ) → Ends (link_line label trader)
-link-ends label trader = ends-joined (counted label trader) (codes " always always\n") always
+link-ends label trader = ends-joined (label_number label trader) (codes " always always\n") always
 
 -- ---- what was said has a trader
 
@@ -67,7 +69,7 @@ record Reaches (count done : ℕ) : Type 0 where
   last : TraderScript
   typed : Bool
   names : map (λ (t : TraderScript). t.name) (all_said done before last) ≡ first_names done
-  traders : map asked (all_said done before last) ≡ ring_traders count done
+  traders : map plain_script (all_said done before last) ≡ ring_traders count done
   reads : (rest : List ℕ) → rest_of_file 0 nothing_yet (lines (so_far count done ++ rest))
       ≡ rest_of_file n (between (first_names done) before (last_of done last) typed) (lines rest)
 
@@ -141,21 +143,21 @@ module _ (count done : ℕ) (r : Reaches count done)
   abbrev last_said : TraderScript
   last_said = record { name = name_of trader; interfaces = []; entries = twice_linked.entries }
 
-  abbrev asked_so : List Entry → Asked
+  abbrev asked_so : List FileEntry → PlainScript
   asked_so es = record { name = name_of trader; interfaces = []; entries = es }
 
-  abbrev first_entry : Entry
+  abbrev first_entry : FileEntry
   first_entry = link_entry (codes "next") (next_after count trader)
 
-  abbrev second_entry : Entry
+  abbrev second_entry : FileEntry
   second_entry = link_entry (codes "chord") (chord_after count trader)
 
   said : entries_in twice_linked.entries ≡ head_entries trader ++ link_entries count trader
   said =
       map-last (λ (one : Numbered). one.entry) once_linked.entries _
-      ∙ ap (λ (es : List Entry). es ++ second_entry ∷ [])
-      (map-last (λ (one : Numbered). one.entry) (closed headed).entries _
-      ∙ ap (λ (es : List Entry). es ++ first_entry ∷ []) h.says)
+      ∙ ap (λ (es : List FileEntry). es ++ second_entry ∷ [])
+      (map-last (λ (one : Numbered). one.entry) (close_entry headed).entries _
+      ∙ ap (λ (es : List FileEntry). es ++ first_entry ∷ []) h.says)
       ∙ append_assoc (head_entries trader) (first_entry ∷ []) (second_entry ∷ [])
 
   one-more : Reaches count trader
@@ -168,9 +170,9 @@ module _ (count done : ℕ) (r : Reaches count done)
         map-last (λ (t : TraderScript). t.name) others last_said
         ∙ ap (λ (names : List (List ℕ)). names ++ name_of trader ∷ []) r.names;
     traders =
-        map-last asked others last_said
-        ∙ ap (λ (ts : List Asked). ts ++ asked last_said ∷ []) r.traders
-        ∙ ap (λ (es : List Entry). ring_traders count done ++ asked_so es ∷ []) said;
+        map-last plain_script others last_said
+        ∙ ap (λ (ts : List PlainScript). ts ++ plain_script last_said ∷ []) r.traders
+        ∙ ap (λ (es : List FileEntry). ring_traders count done ++ asked_so es ∷ []) said;
     reads = λ rest.
         ap (λ (x : List ℕ). rest_of_file 0 nothing_yet (lines x)) (apart rest)
         ∙ (r.reads (head trader ++ (first_link ++ (second_link ++ rest)))
@@ -183,13 +185,13 @@ module _ (count done : ℕ) (r : Reaches count done)
   }
 
 -- all traders are there
-all-read : (count : ℕ) → 1 ≤ count → Reaches count count → SaysRing count (script_of (generated count))
+all-read : (count : ℕ) → 1 ≤ count → Reaches count count → SaysRing count (script_of (generated_file count))
 unfolding script_of
 all-read zero least r = absurd (omega arith)
 all-read (suc done) least r =
     let d : Draft = between (first_names (suc done)) r.before r.last r.typed in
     let there : has_trader d ≡ true = named (first_names done) (name_of (suc done)) in
-    let text : List ℕ = generated (suc done) in
+    let text : List ℕ = generated_file (suc done) in
     let is : script_of text ≡ rest_of_file r.n d [] =
     ap (λ (x : List ℕ). rest_of_file 0 nothing_yet (lines x)) (sym (append-nil text)) ∙ r.reads [] in
     subst (λ (s : Script). SaysRing (suc done) s) (sym is) (record {
@@ -201,7 +203,7 @@ all-read (suc done) least r =
         interfaces = [];
         entries = [];
       } else d).finished) ≡ first_names (suc done)) (sym there) r.names;
-      traders = subst (λ (b : Bool). map asked ((if b then record d {
+      traders = subst (λ (b : Bool). map plain_script ((if b then record d {
         finished = d.finished ++ last_trader d ∷ [];
         name = [];
         interfaces = [];
@@ -232,5 +234,5 @@ module _ (heads : Upto 64 IsHeadRead)
         (link-at (codes "link next T") (codes "next") nexts (suc done))
         (link-at (codes "link chord T") (codes "chord") chords (suc done + 2))
 
-    pub says-ring : SaysRing count (script_of (generated count))
+    pub says-ring : SaysRing count (script_of (generated_file count))
     says-ring = all-read count least (reached count (omega arith))

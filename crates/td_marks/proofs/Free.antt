@@ -4,7 +4,8 @@ use Rattle.std.proofs.Common.{not, List, [], ◌∷◌, length, Option, Some, No
 use Rattle.std.proofs.Common.{sym, ap, ◌∙◌, subst, arith, Result, Ok, Err, IfOk}
 use Rattle.std.proofs.lemmas.Bool.{cases_Bool, cases_eq, cases_lt}
 use Rattle.indexmap.proofs.IndexTableLemmas.Probe.{Into, OneToOne, pigeonhole}
-use Rattle.td_cdr.specs.Marks.{Marks, Remembered, In, Holds, Numbered, Orderly, Later, Follows, remembered, marked}
+use Rattle.td_cdr.specs.Marks.{Marks, RememberedMark, In, RemembersAs, AreNumbered, KeepsLatest, Later, IsMarkedFrom}
+use Rattle.td_cdr.specs.Marks.{remembered, add_mark}
 use Rattle.td_cdr.specs.Marks.{entry_of, made_identifier}
 use Rattle.td_cdr.proofs.Marking.{is_held, is_not_held, follows, made_apart}
 use Rattle.td_marks.specs.Making.{is_free, first_free, next_value, made_from, IsNextValue}
@@ -65,23 +66,23 @@ ends free (suc n) k none = absurd (omega arith)
 
 -- ---- no more are taken than are kept
 
-bounds : (k : ℕ) (es : List Remembered) (n : ℕ) (e : Remembered) → Numbered k es n → In e es
+bounds : (k : ℕ) (es : List RememberedMark) (n : ℕ) (e : RememberedMark) → AreNumbered k es n → In e es
     → (k < e.number) × (e.number ≤ k + length es)
 bounds k [] n e r h = elim h [ ]
 bounds k (f ∷ es) n e r (inl p) =
-    let same : e.number ≡ f.number = ap (λ (x : Remembered). x.number) p in
+    let same : e.number ≡ f.number = ap (λ (x : RememberedMark). x.number) p in
     let is = r.0 in (omega arith, omega arith)
 bounds k (f ∷ es) n e r (inr h) = let b = bounds (k + 1) es n e r.1 h in (omega (arith, b.0), omega (arith, b.1))
 
-one_number : (k : ℕ) (es : List Remembered) (n : ℕ) (a b : Remembered) → Numbered k es n → In a es → In b es
+one_number : (k : ℕ) (es : List RememberedMark) (n : ℕ) (a b : RememberedMark) → AreNumbered k es n → In a es → In b es
     → a.number ≡ b.number → a ≡ b
 one_number k [] n a b r h l e = elim h [ ]
 one_number k (f ∷ es) n a b r (inl p) (inl q) e = p ∙ sym q
 one_number k (f ∷ es) n a b r (inl p) (inr l) e =
-    let same : a.number ≡ f.number = ap (λ (x : Remembered). x.number) p in
+    let same : a.number ≡ f.number = ap (λ (x : RememberedMark). x.number) p in
     let is = r.0 in let above = bounds (k + 1) es n b r.1 l in absurd (omega arith)
 one_number k (f ∷ es) n a b r (inr h) (inl q) e =
-    let same : b.number ≡ f.number = ap (λ (x : Remembered). x.number) q in
+    let same : b.number ≡ f.number = ap (λ (x : RememberedMark). x.number) q in
     let is = r.0 in let above = bounds (k + 1) es n a r.1 h in absurd (omega arith)
 one_number k (f ∷ es) n a b r (inr h) (inr l) e = one_number (k + 1) es n a b r.1 h l e
 
@@ -94,12 +95,12 @@ there None e = absurd (true≢false e)
 there (Some x) e = refl
 
 held : (m : Marks) (stem : List ℕ) (value : ℕ) → is_free m stem value ≡ false
-    → Holds m (made_identifier stem value) (number_of m stem value)
+    → RemembersAs m (made_identifier stem value) (number_of m stem value)
 held m stem value taken =
     is_held m (made_identifier stem value) (number_of m stem value)
     (there (remembered m (made_identifier stem value)) taken)
 
-few : (m : Marks) (stem : List ℕ) (n k : ℕ) → Orderly m → k + n ≤ 256 ^ 8
+few : (m : Marks) (stem : List ℕ) (n k : ℕ) → KeepsLatest m → k + n ≤ 256 ^ 8
     → ((j : ℕ) → k ≤ j → j < k + n → is_free m stem j ≡ false) → n ≤ length m.kept
 few m stem n k o fits taken = pigeonhole n (length m.kept) place into one
   where
@@ -109,7 +110,7 @@ few m stem n k o fits taken = pigeonhole n (length m.kept) place into one
     place : ℕ → ℕ
     place i = number_of m stem (k + i) - first - 1
 
-    there_is : (i : ℕ) → i < n → Holds m (made_identifier stem (k + i)) (number_of m stem (k + i))
+    there_is : (i : ℕ) → i < n → RemembersAs m (made_identifier stem (k + i)) (number_of m stem (k + i))
     there_is i below = held m stem (k + i) (taken (k + i) (omega arith) (omega arith))
 
     within : (i : ℕ) → i < n
@@ -131,7 +132,7 @@ few m stem n k o fits taken = pigeonhole n (length m.kept) place into one
         (entry_of (made_identifier stem (k + j)) (number_of m stem (k + j))) o.numbers (there_is i p) (there_is j q)
         same in
         let values : k + i ≡ k + j =
-        made_apart stem stem (k + i) (k + j) (omega arith) (omega arith) (ap (λ (x : Remembered). x.identifier) entries) in
+        made_apart stem stem (k + i) (k + j) (omega arith) (omega arith) (ap (λ (x : RememberedMark). x.identifier) entries) in
         omega (arith, values)
 
 -- ---- the next value
@@ -140,7 +141,7 @@ none_is : (o : Option ℕ) → not (is_some o) ≡ true → o ≡ None
 none_is None e = refl
 none_is (Some x) e = absurd (true≢false (sym e))
 
-pub next_is_free : (m : Marks) (stem : List ℕ) → Orderly m → m.counter + length m.kept < 256 ^ 8
+pub next_is_free : (m : Marks) (stem : List ℕ) → KeepsLatest m → m.counter + length m.kept < 256 ^ 8
     → is_free m stem (next_value m stem) ≡ true
 next_is_free m stem o fits = by (free_or_last (is_free m stem) (length m.kept) m.counter)
   where
@@ -167,7 +168,7 @@ next_is_free m stem o fits = by (free_or_last (is_free m stem) (length m.kept) m
               let many = few m stem (n + 1) m.counter o (omega arith) (all_taken e t) in absurd (omega arith)
         ]
 
-pub is_next : (m : Marks) (stem : List ℕ) → Orderly m → m.counter + length m.kept < 256 ^ 8
+pub is_next : (m : Marks) (stem : List ℕ) → KeepsLatest m → m.counter + length m.kept < 256 ^ 8
     → IsNextValue m stem (next_value m stem)
 is_next m stem o fits =
     let r = from_first (is_free m stem) (length m.kept) m.counter in
@@ -197,11 +198,11 @@ is_alone m stem v w h l =
 
 -- ---- marks
 
-pub fresh_follow : (m : Marks) (i : List ℕ) (c : ℕ) → Orderly m → m.counter ≤ c → remembered m i ≡ None
-    → Follows m (marked m i c)
+pub fresh_follow : (m : Marks) (i : List ℕ) (c : ℕ) → KeepsLatest m → m.counter ≤ c → remembered m i ≡ None
+    → IsMarkedFrom m (add_mark m i c)
 fresh_follow m i c o up fresh = follows m i c o up (is_not_held m i fresh)
 
-pub far : (a m : Marks) (i : List ℕ) (number : ℕ) → Holds a i number → Later a m → remembered m i ≡ None
+pub far : (a m : Marks) (i : List ℕ) (number : ℕ) → RemembersAs a i number → Later a m → remembered m i ≡ None
     → number + m.ring < m.count + 1
 far a m i number h later fresh =
     elim (cases_lt m.count (number + a.ring)) [
@@ -212,24 +213,24 @@ far a m i number h later fresh =
 -- ---- made identifiers
 
 -- the identifier that is made isn't remembered
-made_is_free : (m : Marks) (stem : List ℕ) (made : Made) → Orderly m → m.counter + length m.kept < 256 ^ 8
+made_is_free : (m : Marks) (stem : List ℕ) (made : Made) → KeepsLatest m → m.counter + length m.kept < 256 ^ 8
     → made ≡ made_from stem (next_value m stem) → remembered m made.identifier ≡ None
 made_is_free m stem made o fits e =
     subst (λ (x : Made). remembered m x.identifier ≡ None) (sym e) (is_next m stem o fits).free
 
-pub made_are_free : {E : Type 0} (m : Marks) (stem : List ℕ) (r : Result Made E) → Orderly m
+pub made_are_free : {E : Type 0} (m : Marks) (stem : List ℕ) (r : Result Made E) → KeepsLatest m
     → m.counter + length m.kept < 256 ^ 8 → IfOk r (λ (x : Made). x ≡ made_from stem (next_value m stem))
     → IfOk r (λ (x : Made). remembered m x.identifier ≡ None)
 made_are_free m stem (Ok x) o fits e = made_is_free m stem x o fits e
 made_are_free m stem (Err x) o fits e = tt
 
 -- what a test of the identifier tells
-pub told_free : (m : Marks) (stem identifier : List ℕ) (value : ℕ) (o : Option ℕ) (b : Bool)
+pub content_free : (m : Marks) (stem identifier : List ℕ) (value : ℕ) (o : Option ℕ) (b : Bool)
     → identifier ≡ made_identifier stem value → o ≡ remembered m identifier → is_some o ≡ not b
     → is_free m stem value ≡ b
-told_free m stem identifier value o b same is told =
+content_free m stem identifier value o b same is content =
     ap (λ (i : List ℕ). not (is_some (remembered m i))) (sym same)
-    ∙ (ap (λ (p : Option ℕ). not (is_some p)) (sym is) ∙ (ap not told ∙ not_not b))
+    ∙ (ap (λ (p : Option ℕ). not (is_some p)) (sym is) ∙ (ap not content ∙ not_not b))
   where
     not_not : (b : Bool) → not (not b) ≡ b
     not_not true = refl

@@ -7,7 +7,7 @@ use Rattle.std.specs.Map.{lookup}
 use Rattle.std.specs.Str.{bytes_eq}
 use Rattle.std.specs.declared.alloc.Global.{Global}
 use Rattle.circular_buffer.specs.Buffer.{Buffer, keep_last}
-use Rattle.td_cdr.specs.Marks.{Marks, Remembered, Orderly, entry_of, remembered}
+use Rattle.td_cdr.specs.Marks.{Marks, RememberedMark, KeepsLatest, entry_of, remembered}
 
 -- how many identifiers a ring remembers at most; this trader's choice
 abbrev pub most_kept : ℕ
@@ -18,9 +18,9 @@ abbrev pub no_marks : ℕ → Marks
 no_marks ring = record { count = 0; counter = 0; ring = ring; kept = [] }
 
 -- identifiers with their numbers, from above first on
-abbrev pub numbered : ℕ → List (List ℕ) → List Remembered
-numbered first [] = []
-numbered first (i ∷ is) = entry_of i (first + 1) ∷ numbered (first + 1) is
+abbrev pub number_marks : ℕ → List (List ℕ) → List RememberedMark
+number_marks first [] = []
+number_marks first (i ∷ is) = entry_of i (first + 1) ∷ number_marks (first + 1) is
 
 -- the marks of which the last ones have these identifiers
 abbrev pub marks_of : (count counter : ℕ) → Buffer (List ℕ) → Marks
@@ -28,20 +28,20 @@ marks_of count counter ring = record {
   count = count;
   counter = counter;
   ring = ring.capacity;
-  kept = numbered (count - length ring.items) ring.items;
+  kept = number_marks (count - length ring.items) ring.items;
 }
 
 -- the identifiers that are remembered
-abbrev pub identifiers : List Remembered → List (List ℕ)
+abbrev pub identifiers : List RememberedMark → List (List ℕ)
 identifiers kept = map (λ e. e.identifier) kept
 
 -- these marks, with others kept
-abbrev pub keeping : Marks → List Remembered → Marks
-keeping m kept = record m { kept = kept }
+abbrev pub with_kept : Marks → List RememberedMark → Marks
+with_kept m kept = record m { kept = kept }
 
 -- the entries of the map: identifiers, each with its number
-abbrev pub Entries : Type 0
-Entries = List (Vec ℕ Global × ℕ)
+abbrev pub MarkEntries : Type 0
+MarkEntries = List (Vec ℕ Global × ℕ)
 
 -- the keys are the same identifier
 abbrev pub same_key : Vec ℕ Global → Vec ℕ Global → Bool
@@ -52,40 +52,42 @@ abbrev pub is_key : List ℕ → Vec ℕ Global → Bool
 is_key identifier key = bytes_eq identifier key.items
 
 -- in the map each identifier has the number under which it is remembered, and no other has one
-abbrev pub Finds : Entries → Marks → Type 0
-Finds entries m = (identifier : List ℕ) → lookup (is_key identifier) entries
+abbrev pub FindsIdentifiers : MarkEntries → Marks → Type 0
+FindsIdentifiers entries m = (identifier : List ℕ) → lookup (is_key identifier) entries
     ≡ remembered m identifier
 
 -- the map finds this identifier besides
-abbrev pub Enters : Entries → (identifier : List ℕ) → (number : ℕ) → Entries → Type 0
-Enters entries identifier number more =
-    (m : Marks) → Finds entries m
-    → Finds more (keeping m (m.kept ++ entry_of identifier number ∷ []))
+abbrev pub AddsIdentifier : MarkEntries → (identifier : List ℕ) → (number : ℕ) → MarkEntries
+    → Type 0
+AddsIdentifier entries identifier number more =
+    (m : Marks) → FindsIdentifiers entries m
+    → FindsIdentifiers more (with_kept m (m.kept ++ entry_of identifier number ∷ []))
 
 -- how many identifiers there is no room for
-abbrev pub forgotten : Buffer (List ℕ) → ℕ
-forgotten ring = length ring.items - ring.capacity
+abbrev pub forgotten_count : Buffer (List ℕ) → ℕ
+forgotten_count ring = length ring.items - ring.capacity
 
 -- the map that finds one identifier more than there may be room for is made to find those that stay
-abbrev pub Forgets : Buffer (List ℕ) → Entries → Entries → Type 0
+abbrev pub Forgets : Buffer (List ℕ) → MarkEntries → MarkEntries → Type 0
 Forgets ring entries left =
     (m : Marks) (first : ℕ) → length ring.items ≤ ring.capacity + 1 → IsDistinct bytes_eq ring.items
-    → Finds entries (keeping m (numbered first ring.items))
-    → Finds left (keeping m (numbered (first + forgotten ring)
+    → FindsIdentifiers entries (with_kept m (number_marks first ring.items))
+    → FindsIdentifiers left (with_kept m (number_marks (first + forgotten_count ring)
     (keep_last ring.capacity ring.items)))
 
 -- the ring holds the last identifiers, as many as were marked or as there is room for, and the map finds these
-pub record IsTied (count counter : ℕ) (ring : Buffer (List ℕ)) (entries : Entries) : Type 0 where
+pub record IsTied (count counter : ℕ) (ring : Buffer (List ℕ)) (entries : MarkEntries) :
+    Type 0 where
   pub room : 0 < ring.capacity
   pub most : ring.capacity ≤ most_kept
   pub last : length ring.items ≡ min count ring.capacity
   pub steps : counter ≤ (most_kept + 1) * count
   pub distinct : IsDistinct bytes_eq ring.items
-  pub found : Finds entries (marks_of count counter ring)
+  pub found : FindsIdentifiers entries (marks_of count counter ring)
 
 -- what holds of the marks of every ring: one mark raises the counter by no more than there may be identifiers, and one
-pub record IsKept (m : Marks) : Type 0 where
-  pub orderly : Orderly m
+pub record AreRingMarks (m : Marks) : Type 0 where
+  pub orderly : KeepsLatest m
   pub most : m.ring ≤ most_kept
   pub within : length m.kept ≤ m.ring
   pub steps : m.counter ≤ (most_kept + 1) * m.count

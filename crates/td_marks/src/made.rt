@@ -19,7 +19,7 @@ pub struct Made {
 ///
 /// # Errors
 ///
-/// `Memory` for want of memory alone.
+/// `Memory` only when out of memory.
 pub(crate) fn make(alloc: Global, stem: &[u8], value: u64) -> Result<Made, Memory>
     requires { value + 1 < 2 ^ 64 }
     ensures { IfOk result (λ made. made ≡ made_from stem.now value) }

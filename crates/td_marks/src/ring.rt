@@ -3,8 +3,8 @@
 ghost use Rattle.std.specs.Prelude.{◌≡◌, ◌+◌, ◌<◌, ◌≤◌, ◌^◌, [], ◌∷◌, ◌++◌, length, None, IfOk, OnOk, OnErr};
 ghost use Rattle.std.specs.Map.{lookup};
 ghost use Rattle.circular_buffer.specs.Buffer.{buffer, keep_last};
-ghost use Rattle.td_cdr.specs.Marks.{Follows, remembered, marked};
-ghost use Rattle.td_marks.specs.Keeping.{most_kept, no_marks, is_key, Enters, Forgets, IsKept};
+ghost use Rattle.td_cdr.specs.Marks.{IsMarkedFrom, remembered, add_mark};
+ghost use Rattle.td_marks.specs.Keeping.{most_kept, no_marks, is_key, AddsIdentifier, Forgets, AreRingMarks};
 ghost use Rattle.td_marks.specs.Making.{next_value, made_from};
 
 use crate::made::{Made, make};
@@ -44,7 +44,7 @@ impl Ring {
     ///
     /// # Errors
     ///
-    /// `Memory` for want of memory alone.
+    /// `Memory` only when out of memory.
     pub fn new(alloc: Global, size: u32) -> Result<Ring, Memory>
         requires some { 0 < size }
         requires most { size ≤ most_kept }
@@ -88,7 +88,7 @@ impl Ring {
 
     /// What holds of the marks of every ring. This call does nothing.
     pub fn keeps(&self)
-        ensures { IsKept self.now }
+        ensures { AreRingMarks self.now }
     {
         let _ = &self.count;
     }
@@ -105,7 +105,7 @@ impl Ring {
     ///
     /// # Errors
     ///
-    /// `Memory` for want of memory alone.
+    /// `Memory` only when out of memory.
     pub fn make(&self, alloc: Global, stem: &[u8]) -> Result<Made, Memory>
         requires { self.now.count ≤ 2 ^ 40 }
         ensures made { IfOk result (λ made. made
@@ -132,15 +132,15 @@ impl Ring {
     ///
     /// # Errors
     ///
-    /// `Memory` for want of memory alone; the ring is then unchanged.
+    /// `Memory` only when out of memory; the ring is then unchanged.
     pub fn mark(&mut self, alloc: Global, identifier: &[u8], counter: u64) -> Result<u64, Memory>
         requires fresh { remembered self.old identifier.now ≡ None }
         requires up { self.old.counter ≤ counter }
         requires near { counter ≤ self.old.counter + most_kept + 1 }
         requires few { self.old.count < 2 ^ 40 }
         ensures number { IfOk result (λ number. number ≡ self.old.count + 1) }
-        ensures marked { OnOk result (self.new ≡ marked self.old identifier.now counter) }
-        ensures follows { OnOk result (Follows self.old self.new) }
+        ensures marked { OnOk result (self.new ≡ add_mark self.old identifier.now counter) }
+        ensures follows { OnOk result (IsMarkedFrom self.old self.new) }
         ensures unchanged { OnErr result (self.new ≡ self.old) }
     {
         let copied = Octets::from_slice(alloc, identifier)?;
@@ -157,7 +157,7 @@ impl Ring {
 ///
 /// # Errors
 ///
-/// `Memory` for want of memory alone; the map is then unchanged.
+/// `Memory` only when out of memory; the map is then unchanged.
 fn enter(
     alloc: Global,
     numbers: &mut IndexMap<Vec<u8>, u64>,
@@ -166,7 +166,7 @@ fn enter(
 ) -> Result<(), Memory>
     requires fresh { lookup (is_key identifier.now) numbers.old.entries ≡ None }
     ensures entered { OnOk result
-        (Enters numbers.old.entries identifier.now number numbers.new.entries) }
+        (AddsIdentifier numbers.old.entries identifier.now number numbers.new.entries) }
     ensures unchanged { OnErr result (numbers.new.entries ≡ numbers.old.entries) }
 {
     let key = Vec::from_slice(alloc, identifier)?;

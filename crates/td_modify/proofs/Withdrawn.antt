@@ -4,7 +4,7 @@ use Rattle.std.proofs.Common.{refl, sym, ap, ◌∙◌, inl, inr}
 use Rattle.std.specs.Prelude.{filter, is_some}
 use Rattle.std.specs.List.{AllByRecursion, list_any}
 use Rattle.std.proofs.lemmas.Bool.{and_left, cases_Bool, eq-eqb, eqb-true, or_left, or_right}
-use Rattle.td_eval.specs.Values.{matching}
+use Rattle.td_eval.specs.Values.{matches_constraint}
 use Rattle.td_lang.specs.declared.expr.Constraint.{Constraint}
 use Rattle.td_types.specs.Conforming.{conforms}
 use Rattle.td_types.specs.declared.entry.ServiceType.{ServiceType}
@@ -64,7 +64,7 @@ module _ (types : List ServiceType) (name : List ℕ) (c : Constraint) where
 
   met-is : (o : OfferRecord) → met o ≡ (conforming o && meets c o)
   met-is o =
-      regrouped (not (is_some o.proxy)) (belongs types o) (conforms types o.service_type name) (matching
+      regrouped (not (is_some o.proxy)) (belongs types o) (conforms types o.service_type name) (matches_constraint
       (static_properties o.properties) c)
 
   -- those that match among those whose type conforms

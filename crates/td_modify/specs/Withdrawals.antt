@@ -1,6 +1,6 @@
 -- What the functions behind withdraw_using_constraint answer.
 use Rattle.std.specs.Prelude.{◌≡◌, ℕ, Bool, not, ◌&&◌, is_some, List, [], ◌∷◌, None, Result, Ok, Err}
-use Rattle.td_eval.specs.Values.{matching}
+use Rattle.td_eval.specs.Values.{matches_constraint}
 use Rattle.td_lang.specs.declared.expr.Constraint.{Constraint}
 use Rattle.td_store.specs.OfferLists.{without_offer}
 use Rattle.td_store.specs.declared.record.OfferRecord.{OfferRecord}
@@ -11,7 +11,7 @@ use Rattle.td_register.specs.declared.refusal.Fault.{Fault}
 
 -- an ordinary offer whose properties match
 abbrev pub meets : Constraint → OfferRecord → Bool
-meets c o = not (is_some o.proxy) && matching (static_properties o.properties) c
+meets c o = not (is_some o.proxy) && matches_constraint (static_properties o.properties) c
 
 -- one after the other is taken away
 abbrev pub without_offers : List ℕ → List OfferRecord → List OfferRecord

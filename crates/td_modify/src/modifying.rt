@@ -7,18 +7,19 @@ ghost use Rattle.td_ops.specs.declared.outcome.Reply.TheVariants as reply;
 ghost use Rattle.td_types.specs.Repository.{is_among};
 ghost use Rattle.td_value.specs.declared.structures.Property.{Property as Kept};
 ghost use Rattle.td_register.specs.Causes.{unless_full, ◌otherwise◌};
-ghost use Rattle.td_register.specs.Judged.{Accepts, IsRenewal, Judges, Yields};
+ghost use Rattle.td_register.specs.Judged.{AcceptsChange, IsRenewal, IsFirstCause, Yields};
 ghost use Rattle.td_register.specs.Properties.{carries};
-ghost use Rattle.td_register.specs.Registers.{changes_cause, deletion_cause, deletions_cause, modified, modify_cause};
-ghost use Rattle.td_register.specs.Registers.{offer_changes_cause, readonly_cause, renewed, with_modified};
+ghost use Rattle.td_register.specs.Registers.{changes_cause, deletion_cause, deletions_cause, modified_properties};
+ghost use Rattle.td_register.specs.Registers.{modify_cause};
+ghost use Rattle.td_register.specs.Registers.{offer_changes_cause, readonly_cause, replacement_of, with_modified};
 
 use std::alloc::Global;
 use td_cdr::{List, Memory, Seen, Shared, Text, Twin, copy_two, nothing_seen};
 use td_exceptions::UserException;
 use td_ops::{Change, is_among};
 use td_register::{
-    Accepted, ChangeReply, Fault, Refusal, carries, check_name, check_size, check_value, demanded,
-    entry_of, mode_of, ordinary, push_copy, raised,
+    Accepted, ChangeReply, Fault, Refusal, carries, check_name, check_size, check_value, entry_of,
+    mode_of, ordinary, push_copy, raised, type_properties,
 };
 use td_store::{OfferRecord, Store};
 use td_types::{is_mandatory, is_readonly};
@@ -27,18 +28,18 @@ use td_value::{PropStruct, Property};
 /// Refuses to delete a property that the offer lacks or must keep.
 fn check_deletion(
     alloc: Global,
-    demanded: &[PropStruct],
+    type_properties: &[PropStruct],
     offer: &OfferRecord,
     name: &Text,
 ) -> Result<(), Fault>
-    ensures { Judges (deletion_cause demanded.now offer.now name.now) result }
+    ensures { IsFirstCause (deletion_cause type_properties.now offer.now name.now) result }
 {
     if !carries(offer.properties.as_slice(), name.as_slice()) {
         return Err(raised(UserException::UnknownPropertyName {
             name: name.copy(alloc)?,
         }));
     }
-    let mode = mode_of(demanded, name.as_slice());
+    let mode = mode_of(type_properties, name.as_slice());
     if is_mandatory(mode) {
         let (service_type, name) = copy_two(alloc, offer.service_type.get(), name)?;
         return Err(raised(UserException::MandatoryProperty { service_type, name }));
@@ -53,18 +54,19 @@ fn check_deletion(
 /// Refuses the first name that can't be deleted, and notes all as met.
 fn check_deletions<'a>(
     alloc: Global,
-    demanded: &[PropStruct],
+    type_properties: &[PropStruct],
     offer: &OfferRecord,
     seen: &mut Seen<'a>,
     names: &'a [Text],
 ) -> Result<(), Fault>
     requires { HaveSeen seen.old [] }
-    ensures judged { Judges (deletions_cause demanded.now offer.now [] names.now) result }
+    ensures judged { IsFirstCause (deletions_cause type_properties.now offer.now [] names.now)
+        result }
     ensures noted { OnOk result (HaveSeen seen.new names.now) }
 {
     for name in names {
         check_name(alloc, seen, name)?;
-        check_deletion(alloc, demanded, offer, name)?;
+        check_deletion(alloc, type_properties, offer, name)?;
     }
     Ok(())
 }
@@ -72,13 +74,13 @@ fn check_deletions<'a>(
 /// Refuses another value of a readonly property that the offer has.
 fn check_readonly(
     alloc: Global,
-    demanded: &[PropStruct],
+    type_properties: &[PropStruct],
     offer: &OfferRecord,
     name: &Text,
 ) -> Result<(), Fault>
-    ensures { Judges (readonly_cause demanded.now offer.now name.now) result }
+    ensures { IsFirstCause (readonly_cause type_properties.now offer.now name.now) result }
 {
-    if is_readonly(mode_of(demanded, name.as_slice()))
+    if is_readonly(mode_of(type_properties, name.as_slice()))
         && carries(offer.properties.as_slice(), name.as_slice())
     {
         let (service_type, name) = copy_two(alloc, offer.service_type.get(), name)?;
@@ -91,18 +93,25 @@ fn check_readonly(
 fn check_changes<'a>(
     alloc: Global,
     supported: bool,
-    demanded: &[PropStruct],
+    type_properties: &[PropStruct],
     offer: &OfferRecord,
     seen: &mut Seen<'a>,
     changed: &'a [Property],
 ) -> Result<(), Fault>
     ensures { (deleted : List (List ℕ)) → HaveSeen seen.old deleted →
-        Judges (changes_cause supported demanded.now offer.now deleted changed.now) result }
+        IsFirstCause (changes_cause supported type_properties.now offer.now deleted changed.now)
+        result }
 {
     for property in changed {
         check_name(alloc, seen, &property.name)?;
-        check_value(alloc, supported, &offer.service_type, demanded, property)?;
-        check_readonly(alloc, demanded, offer, &property.name)?;
+        check_value(
+            alloc,
+            supported,
+            &offer.service_type,
+            type_properties,
+            property,
+        )?;
+        check_readonly(alloc, type_properties, offer, &property.name)?;
     }
     Ok(())
 }
@@ -111,22 +120,23 @@ fn check_changes<'a>(
 fn check_modify(
     alloc: Global,
     supported: bool,
-    demanded: &[PropStruct],
+    type_properties: &[PropStruct],
     offer: &OfferRecord,
     deleted: &[Text],
     changed: &[Property],
 ) -> Result<(), Fault>
-    ensures { Judges (deletions_cause demanded.now offer.now [] deleted.now
-        otherwise changes_cause supported demanded.now offer.now deleted.now changed.now) result }
+    ensures { IsFirstCause (deletions_cause type_properties.now offer.now [] deleted.now
+        otherwise changes_cause supported type_properties.now offer.now deleted.now changed.now)
+        result }
 {
     let mut seen = nothing_seen(alloc);
-    check_deletions(alloc, demanded, offer, &mut seen, deleted)?;
-    check_changes(alloc, supported, demanded, offer, &mut seen, changed)
+    check_deletions(alloc, type_properties, offer, &mut seen, deleted)?;
+    check_changes(alloc, supported, type_properties, offer, &mut seen, changed)
 }
 
 /// The property that is given in place of this one, or else this one.
 fn renewed<'a>(changed: &'a [Property], property: &'a Property) -> &'a Property
-    ensures { result.now ≡ renewed changed.now property.now }
+    ensures { result.now ≡ replacement_of changed.now property.now }
 {
     for other in changed {
         if other.name.as_slice() == property.name.as_slice() {
@@ -143,7 +153,7 @@ fn kept(
     deleted: &[Text],
     changed: &[Property],
 ) -> Result<List<Property>, Memory>
-    ensures { IfOk result (λ kept. kept ≡ map (renewed changed.now)
+    ensures { IfOk result (λ kept. kept ≡ map (replacement_of changed.now)
         (filter (λ (p : Kept). not (is_among p.name deleted.now)) properties.now)) }
 {
     let mut kept = List::new(alloc);
@@ -180,7 +190,8 @@ fn modified(
     deleted: &[Text],
     changed: &[Property],
 ) -> Result<List<Property>, Memory>
-    ensures { IfOk result (λ all. all ≡ modified properties.now deleted.now changed.now) }
+    ensures { IfOk result (λ all. all ≡ modified_properties properties.now deleted.now
+        changed.now) }
 {
     let mut all = kept(alloc, properties, deleted, changed)?;
     match add_new(alloc, &mut all, properties, changed) {
@@ -198,12 +209,12 @@ fn new_properties(
     changed: &[Property],
 ) -> Result<List<Property>, Fault>
     ensures { Yields (offer_changes_cause store.now deleted.now changed.now offer.now)
-        (modified offer.now.properties deleted.now changed.now) result }
+        (modified_properties offer.now.properties deleted.now changed.now) result }
 {
     check_modify(
         alloc,
         store.attributes.supports_dynamic_properties,
-        demanded(&store.types, offer),
+        type_properties(&store.types, offer),
         offer,
         deleted,
         changed,
@@ -240,7 +251,7 @@ fn renewal(
 ///
 /// `NotImplemented`; `IllegalOfferId`, `UnknownOfferId`, `ProxyOfferId`; what is at fault with a name
 /// that is to be deleted, and then with a property; IMP_LIMIT past a limit, and where no more changes are
-/// accepted; `Memory` for want of memory.
+/// accepted; `Memory` when out of memory.
 pub fn modify(
     alloc: Global,
     store: &mut Store,
@@ -249,7 +260,7 @@ pub fn modify(
     deleted: List<Text>,
     changed: List<Property>,
 ) -> Result<Accepted, Fault>
-    ensures { Accepts (change.Modify id deleted changed)
+    ensures { AcceptsChange (change.Modify id deleted changed)
         (unless_full full (modify_cause store.old id deleted changed) reply.Nothing
         (with_modified store.old id deleted changed)) store.old store.new result }
 {

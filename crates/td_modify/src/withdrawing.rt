@@ -5,9 +5,9 @@ ghost use Rattle.std.specs.Prelude.{◌≡◌, None, Ok, filter, map, not, IfOk,
 ghost use Rattle.td_ops.specs.declared.call.Change.TheVariants as change;
 ghost use Rattle.td_ops.specs.declared.outcome.Reply.TheVariants as reply;
 ghost use Rattle.td_store.specs.Candidates.{has_conforming_type};
-ghost use Rattle.td_register.specs.Causes.{given, unless_full};
-ghost use Rattle.td_register.specs.Judged.{Accepts, IsAbsent, IsMet, Judges};
-ghost use Rattle.td_register.specs.Named.{known};
+ghost use Rattle.td_register.specs.Causes.{with_cause, unless_full};
+ghost use Rattle.td_register.specs.Judged.{AcceptsChange, IsAbsent, IsMet, IsFirstCause};
+ghost use Rattle.td_register.specs.Named.{type_found};
 ghost use Rattle.td_register.specs.Registers.{asked_in, is_met, no_more, none_met, static_properties};
 ghost use Rattle.td_register.specs.Registers.{withdraw_met_cause, without_met};
 ghost use Rattle.td_modify.specs.Withdrawals.{IsWithdrawal, meets, without_offers};
@@ -29,7 +29,7 @@ use td_value::{Property, is_dynamic};
 
 /// Refuses a name that no type has.
 fn check_known(alloc: Global, types: &Types, name: &Text) -> Result<(), Fault>
-    ensures { Judges (given (known types.now.types name.now) no_more) result }
+    ensures { IsFirstCause (with_cause (type_found types.now.types name.now) no_more) result }
 {
     if !is_word_name(name.as_slice()) {
         return Err(illegal_type(name.copy(alloc)?));
@@ -186,7 +186,7 @@ fn remove_all(offers: &mut Offers, numbers: &[u32])
 /// # Errors
 ///
 /// `IllegalServiceType`, `UnknownServiceType`; `IllegalConstraint`; `NoMatchingOffers`; IMP_LIMIT where no
-/// more changes are accepted; `Memory` for want of memory.
+/// more changes are accepted; `Memory` when out of memory.
 pub fn withdraw_using_constraint(
     alloc: Global,
     store: &mut Store,
@@ -194,7 +194,7 @@ pub fn withdraw_using_constraint(
     service_type: Text,
     constraint: Text,
 ) -> Result<Accepted, Fault>
-    ensures { Accepts (change.WithdrawUsingConstraint service_type constraint)
+    ensures { AcceptsChange (change.WithdrawUsingConstraint service_type constraint)
         (unless_full full (withdraw_met_cause store.old service_type constraint) reply.Nothing
         (without_met store.old service_type constraint)) store.old store.new result }
 {

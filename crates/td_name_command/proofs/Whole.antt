@@ -2,13 +2,13 @@
 use Rattle.std.proofs.Common.{◌≡◌, ℕ, List, Some, refl, sym, ap, subst, inl, inr}
 use Rattle.td_name_session.proofs.Complete.{complete}
 use Rattle.td_names.specs.declared.address.Address.{Address}
-use Rattle.td_naming.specs.Alone.{nothing}
+use Rattle.td_naming.specs.Alone.{no_changes}
 use Rattle.td_stream.specs.Completeness.{IsServable, NoneFailed}
 use Rattle.td_stream.specs.Outside.{Outside}
 use Rattle.td_stream.specs.declared.end.End.{End}
 use Rattle.td_name_command.specs.Completeness.{Completes, IsAnswered}
 use Rattle.td_name_command.specs.Ends.{end_status, status_of}
-use Rattle.td_name_command.specs.Runs.{Obeys, ObeysAt, ServesNew, beginning}
+use Rattle.td_name_command.specs.Runs.{Obeys, ObeysAt, ServesNew, first_scene}
 use Rattle.td_name_command.specs.Words.{home_of}
 use Rattle.td_name_command.specs.declared.ended.Ended.{Ended}
 use Rattle.td_name_command.specs.declared.ended.Ended.TheVariants.{Usage, Memory, Served}
@@ -17,7 +17,7 @@ session_answered : (home : Address) (end : End) (before after : Outside) (stream
     → ServesNew home end before after → before.left ≡ Some stream → IsServable stream messages
     → NoneFailed before after → IsAnswered home before after messages (end_status end)
 session_answered home end before after stream messages s input servable unhurt =
-    elim (complete nothing (beginning home) s.later s.journal end before after s.serves stream messages input servable
+    elim (complete no_changes (first_scene home) s.later s.journal end before after s.serves stream messages input servable
     unhurt) [
       | inl closed ↦ inl (ap end_status closed.0, s.later, closed.1)
       | inr memory ↦ inr (ap end_status memory)

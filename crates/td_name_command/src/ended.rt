@@ -10,7 +10,7 @@ use td_name_session::End;
 pub(crate) enum Ended {
     /// The words are no command.
     Usage,
-    /// Want of memory, before a session began.
+    /// Out of memory, before a session began.
     Memory,
     /// The session ended so.
     Served(End),

@@ -2,7 +2,7 @@
 
 ghost use Rattle.std.specs.Prelude.{map, string_bytes};
 ghost use Rattle.td_name_command.specs.Completeness.{Completes};
-ghost use Rattle.td_name_command.specs.Runs.{Obeys, Runs};
+ghost use Rattle.td_name_command.specs.Runs.{Obeys, RunsNameServer};
 ghost use Rattle.td_name_command.specs.Words.{home_of};
 ghost use Rattle.td_stream.specs.Outside.{outside};
 
@@ -20,8 +20,8 @@ use td_out::{Sink, Source, StdSink, StdSource, write_all};
 ///
 /// The status is 0 where the session was closed, 2 where the words are no command, 4 where the session broke off, 5
 /// where its input ended inside a message, 6 where the source failed, 7 where the sink failed, 8 where the session was
-/// too long, and 9 for want of memory. The faults sink gets a line where it isn't 0: `usage` or `status N`. It is 0 or 9
-/// where the words are such, the input is messages to a server, and nothing fails.
+/// too long, and 9 when out of memory. The faults sink gets a line where it isn't 0: `usage` or `status N`. It is 0 or
+/// 9 where the words are such, the input is messages to a server, and nothing fails.
 pub fn run_names<S: Source, K: Sink, E: Sink>(
     alloc: Global,
     args: &[String],
@@ -29,7 +29,7 @@ pub fn run_names<S: Source, K: Sink, E: Sink>(
     sink: &mut K,
     faults: &mut E,
 ) -> u8
-    ensures runs { Runs (map string_bytes args.now)
+    ensures runs { RunsNameServer (map string_bytes args.now)
         (outside (S.left source.old) (S.faults source.old) (K.written sink.old) (K.faults sink.old))
         (outside (S.left source.new) (S.faults source.new) (K.written sink.new) (K.faults sink.new))
         (E.written faults.old) (E.written faults.new) (E.faults faults.old)

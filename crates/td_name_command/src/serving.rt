@@ -43,7 +43,7 @@ pub(crate) fn serve_new<S: Source, K: Sink>(
 ///
 /// # Errors
 ///
-/// `Memory` for want of memory alone.
+/// `Memory` only when out of memory.
 pub fn new_naming(alloc: Global, host: &str, port: u16) -> Result<Naming, Memory>
     requires plain { HasNoNul host.now }
     requires short { length host.now ≤ 1000 }

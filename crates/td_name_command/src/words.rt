@@ -8,10 +8,11 @@ ghost use Rattle.td_name_command.specs.Words.{fits_host, home, home_named, home_
 use td_cdr::has_nul;
 use td_ior::number_up_to;
 
-/// The host and the port that the words name: `names HOST PORT`, with a host of at most 1,000 bytes without a NUL, and a
-/// port from 0 to 65535 in decimal without leading zeros.
+/// The host and the port that the words name: `names HOST PORT`, with a host of at most 1,000 bytes without a NUL, and
+/// a port from 0 to 65535 in decimal without leading zeros.
 pub(crate) fn home_of(args: &[String]) -> Option<(&str, u16)>
-    ensures told { option_map (λ h. home h.0.now h.1) result ≡ home_of (map string_bytes args.now) }
+    ensures content { option_map (λ h. home h.0.now h.1) result
+        ≡ home_of (map string_bytes args.now) }
     ensures plain { IfSome result (λ h. HasNoNul h.0.now) }
     ensures short { IfSome result (λ h. length h.0.now ≤ 1000) }
 {
@@ -27,10 +28,10 @@ pub(crate) fn home_of(args: &[String]) -> Option<(&str, u16)>
     }
 }
 
-/// The host and the port that two words name: a host of at most 1,000 bytes without a NUL, and a port from 0 to 65535 in
-/// decimal without leading zeros.
+/// The host and the port that two words name: a host of at most 1,000 bytes without a NUL, and a port from 0 to 65535
+/// in decimal without leading zeros.
 pub fn home_named<'w>(host: &'w str, port: &str) -> Option<(&'w str, u16)>
-    ensures told { option_map (λ h. home h.0.now h.1) result ≡ home_named host.now port.now }
+    ensures content { option_map (λ h. home h.0.now h.1) result ≡ home_named host.now port.now }
     ensures plain { IfSome result (λ h. HasNoNul h.0.now) }
     ensures short { IfSome result (λ h. length h.0.now ≤ 1000) }
 {

@@ -3,13 +3,13 @@ use Rattle.std.specs.Prelude.{◌≡◌, ℕ, ◌&&◌, List, [], ◌∷◌, cod
 use Rattle.std.specs.Str.{bytes_eq}
 use Rattle.td_accept.specs.Doors.{Door}
 use Rattle.td_name_command.specs.Words.{home_named}
-use Rattle.td_name_sessions.specs.Sessions.{HandsSome, Seeded, Told}
-use Rattle.td_name_sessions.specs.Whole.{ServesAll}
+use Rattle.td_name_sessions.specs.Sessions.{HandsSome, WordsBySeeding, HandedSessions}
+use Rattle.td_name_sessions.specs.Whole.{ServesSessions}
 use Rattle.td_names.specs.declared.address.Address.{Address}
 use Rattle.td_naming.specs.Histories.{Past, past}
 use Rattle.td_out.specs.Causes.{Rose}
 use Rattle.td_stream.specs.Outside.{Outside}
-use Rattle.td_out.specs.Told.{Tells}
+use Rattle.td_out.specs.SinkTexts.{GivesText}
 use Rattle.td_name_listen.specs.declared.listened.Listened.{Listened}
 use Rattle.td_name_listen.specs.declared.listened.Listened.TheVariants.{Usage, Memory, Unaccepted, Over}
 
@@ -34,38 +34,38 @@ line_of Unaccepted = codes "status 11\n"
 line_of Over = []
 
 -- what the acceptor tells, its count of faults, and what was handed on
-pub record Front (X : Type 0) : Type 0 where
+pub record ListenState (X : Type 0) : Type 0 where
   pub door : Option (Door X)
   pub faults : ℕ
-  pub told : Option (Told X)
+  pub content : Option (HandedSessions X)
 
-abbrev pub front : {X : Type 0} → Option (Door X) → ℕ → Option (Told X) → Front X
-front door faults told = record { door = door; faults = faults; told = told }
+abbrev pub front : {X : Type 0} → Option (Door X) → ℕ → Option (HandedSessions X) → ListenState X
+front door faults content = record { door = door; faults = faults; content = content }
 
-module _ {X : Type 0} (outside_of : X → Outside) (seeded : X → Seeded) where
-  -- With these contexts all visitors were served. Or the acceptor failed, or memory was wanted: some sessions may have
+module _ {X : Type 0} (outside_of : X → Outside) (seeded : X → WordsBySeeding) where
+  -- With these contexts all visitors were served. Or the acceptor failed, or memory ran out: some sessions may have
   -- been handed on then, but no contexts.
-  abbrev pub ServesNew : Past → Listened → Front X → Front X → Type 0
+  abbrev pub ServesNew : Past → Listened → ListenState X → ListenState X → Type 0
   ServesNew contexts Over before after =
-      ServesAll outside_of seeded contexts before.door before.told after.door after.told
+      ServesSessions outside_of seeded contexts before.door before.content after.door after.content
   ServesNew contexts Unaccepted before after = Rose before.faults after.faults
-      × HandsSome before.told after.told
-  ServesNew contexts Memory before after = HandsSome before.told after.told
+      × HandsSome before.content after.content
+  ServesNew contexts Memory before after = HandsSome before.content after.content
   ServesNew contexts Usage before after = ⊥
 
   -- so it is with the root alone, without bindings, at this address
-  abbrev pub ServesAt : Address → Listened → Front X → Front X → Type 0
+  abbrev pub ServesAt : Address → Listened → ListenState X → ListenState X → Type 0
   ServesAt home listened before after = ServesNew (past home []) listened before after
 
   -- the words are no such command, and nothing is done, or they name an address
-  abbrev pub Obeys : Option Address → Listened → Front X → Front X → Type 0
+  abbrev pub Obeys : Option Address → Listened → ListenState X → ListenState X → Type 0
   Obeys None listened before after = (listened ≡ Usage) × (after ≡ before)
   Obeys (Some home) listened before after = ServesAt home listened before after
 
   -- a run of the program with these words
-  pub record Listens (words : List (List ℕ)) (before after : Front X)
+  pub record Listens (words : List (List ℕ)) (before after : ListenState X)
       (written0 written1 : Option (List ℕ)) (faults0 faults1 : ℕ) (status : ℕ) : Type 0 where
     pub listened : Listened
     pub obeys : Obeys (home_of words) listened before after
     pub answered : status ≡ status_of listened
-    pub reported : Tells (line_of listened) written0 written1 faults0 faults1
+    pub reported : GivesText (line_of listened) written0 written1 faults0 faults1

@@ -1,5 +1,5 @@
-//! `listen names HOST PORT`: the program that serves naming contexts to the visitors of an address (CORBA's IIOP), each on
-//! a thread of its own.
+//! `listen names HOST PORT`: the program that serves naming contexts to the visitors of an address (CORBA's IIOP), each
+//! on a thread of its own.
 #![tactic(auto)]
 
 mod listen;

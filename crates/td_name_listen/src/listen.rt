@@ -19,15 +19,15 @@ use td_naming::Naming;
 use td_out::{Sink, write_all};
 use td_workers::Stop;
 
-/// Serves the visitors of an acceptor, where the words are `listen names HOST PORT`, with naming contexts of which there
-/// is the root alone at first, and whose references have this host and port. HOST has at most 1,000 bytes and no NUL, and
-/// PORT is from 0 to 65535 in decimal without leading zeros. The acceptor is bound once, to that address. Each visitor is
-/// served on a thread of its own as long as fewer than 64 are served so; a visitor beyond them, or one for whom no thread
-/// can be started, is served by the thread that accepts. Session `n`, counted from 1, is served between the two calls of
-/// the gate with this number. Each session that has ended is handed on with its visitor, and after the last one the
-/// contexts are.
+/// Serves the visitors of an acceptor, where the words are `listen names HOST PORT`, with naming contexts of which
+/// there is the root alone at first, and whose references have this host and port. HOST has at most 1,000 bytes and no
+/// NUL, and PORT is from 0 to 65535 in decimal without leading zeros. The acceptor is bound once, to that address. Each
+/// visitor is served on a thread of its own as long as fewer than 64 are served so; a visitor beyond them, or one for
+/// whom no thread can be started, is served by the thread that accepts. Session `n`, counted from 1, is served between
+/// the two calls of the gate with this number. Each session that has ended is handed on with its visitor, and after the
+/// last one the contexts are.
 ///
-/// The status is 0 where no visitor was left, 2 where the words are no such command, 9 for want of memory, and 11 where
+/// The status is 0 where no visitor was left, 2 where the words are no such command, 9 when out of memory, and 11 where
 /// the acceptor failed. The faults sink gets a line where it isn't 0: `usage` or `status N`; ends of sessions print
 /// nothing.
 pub fn listen_names<
@@ -48,8 +48,9 @@ pub fn listen_names<
     ensures listens { Listens
         (λ v. outside (A.S.left v.source) (A.S.faults v.source) (A.K.written v.sink)
         (A.K.faults v.sink)) (λ v. A.W.word_after v.words) (map string_bytes args.now)
-        (front (A.told accept.old) (A.faults accept.old) (N.told ended.old))
-        (front (A.told accept.new) (A.faults accept.new) (N.told ended.new)) (E.written faults.old)
+        (front (A.content accept.old) (A.faults accept.old) (N.content ended.old))
+        (front (A.content accept.new) (A.faults accept.new) (N.content ended.new))
+        (E.written faults.old)
         (E.written faults.new) (E.faults faults.old) (E.faults faults.new) result }
     ensures later { A.faults accept.old ≤ A.faults accept.new }
 {
@@ -70,8 +71,8 @@ fn obey<A: Accept, G: Gate, N: Ended<Visitor<A::S, A::K, A::L, A::W>>, R: Thread
     ensures obeys { Obeys
         (λ v. outside (A.S.left v.source) (A.S.faults v.source) (A.K.written v.sink)
         (A.K.faults v.sink)) (λ v. A.W.word_after v.words) (home_of (map string_bytes args.now))
-        result (front (A.told accept.old) (A.faults accept.old) (N.told ended.old))
-        (front (A.told accept.new) (A.faults accept.new) (N.told ended.new)) }
+        result (front (A.content accept.old) (A.faults accept.old) (N.content ended.old))
+        (front (A.content accept.new) (A.faults accept.new) (N.content ended.new)) }
     ensures later { A.faults accept.old ≤ A.faults accept.new }
 {
     match home_of(args) {
@@ -82,7 +83,8 @@ fn obey<A: Accept, G: Gate, N: Ended<Visitor<A::S, A::K, A::L, A::W>>, R: Thread
 
 /// The host and the port in the command `listen names HOST PORT`.
 fn home_of(args: &[String]) -> Option<(&str, u16)>
-    ensures told { option_map (λ h. home h.0.now h.1) result ≡ home_of (map string_bytes args.now) }
+    ensures content { option_map (λ h. home h.0.now h.1) result
+        ≡ home_of (map string_bytes args.now) }
     ensures plain { IfSome result (λ h. HasNoNul h.0.now) }
     ensures short { IfSome result (λ h. length h.0.now ≤ 1000) }
 {
@@ -99,7 +101,7 @@ fn home_of(args: &[String]) -> Option<(&str, u16)>
 }
 
 /// Serves the visitors at this address.
-#[tactic(auto, using(td_name_sessions::specs::HallLaws::hands_none))]
+#[tactic(auto, using(td_name_sessions::specs::JobSourceLaws::hands_none))]
 fn serve_at<
     A: Accept,
     G: Gate,
@@ -111,8 +113,9 @@ fn serve_at<
     ensures serves { ServesAt
         (λ v. outside (A.S.left v.source) (A.S.faults v.source) (A.K.written v.sink)
         (A.K.faults v.sink)) (λ v. A.W.word_after v.words)
-        (home host.now port) result (front (A.told accept.old) (A.faults accept.old)
-        (N.told ended.old)) (front (A.told accept.new) (A.faults accept.new) (N.told ended.new)) }
+        (home host.now port) result (front (A.content accept.old) (A.faults accept.old)
+        (N.content ended.old)) (front (A.content accept.new) (A.faults accept.new)
+        (N.content ended.new)) }
     ensures later { A.faults accept.old ≤ A.faults accept.new }
 {
     match new_naming(alloc, host, port) {
@@ -131,8 +134,8 @@ fn serve_new<
     ensures serves { ServesNew
         (λ v. outside (A.S.left v.source) (A.S.faults v.source) (A.K.written v.sink)
         (A.K.faults v.sink)) (λ v. A.W.word_after v.words) contexts result
-        (front (A.told accept.old) (A.faults accept.old) (N.told ended.old))
-        (front (A.told accept.new) (A.faults accept.new) (N.told ended.new)) }
+        (front (A.content accept.old) (A.faults accept.old) (N.content ended.old))
+        (front (A.content accept.new) (A.faults accept.new) (N.content ended.new)) }
     ensures later { A.faults accept.old ≤ A.faults accept.new }
 {
     match serve_naming(rt, alloc, contexts, accept, gate, ended) {

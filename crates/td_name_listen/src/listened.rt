@@ -8,7 +8,7 @@ ghost use Rattle.td_name_listen.specs.Listens.{line_of, status_of};
 pub enum Listened {
     /// The words are no command.
     Usage,
-    /// Want of memory.
+    /// Out of memory.
     Memory,
     /// The acceptor failed.
     Unaccepted,

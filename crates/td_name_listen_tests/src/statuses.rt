@@ -1,7 +1,7 @@
 //! The ends of a server that doesn't serve all visitors, with their statuses and lines.
 
 use crate::messages::BIND;
-use crate::visitors::{Told, ends, guest};
+use crate::visitors::{Reported, ends, guest};
 use std::alloc::Global;
 use std::sync::Wait;
 use std::test::Fail;
@@ -17,7 +17,7 @@ fn comes<R: Threads + Wait + Sync>(
     alloc: Global,
     line: &str,
     failing: &[u64],
-    told: Told,
+    content: Reported,
     sessions: usize,
     closed: bool,
 ) -> Result<bool, Memory> {
@@ -25,7 +25,7 @@ fn comes<R: Threads + Wait + Sync>(
     guests.push(guest(alloc, BIND)?)?;
     let mut accept = MemAccept::new(alloc, guests, List::from_slice(alloc, failing)?);
     let mut ended = KeepEnded::new(alloc)?;
-    let good = ends(rt, alloc, line, &NoGate, told, &mut accept, &mut ended)?;
+    let good = ends(rt, alloc, line, &NoGate, content, &mut accept, &mut ended)?;
     Ok(
         good && ended.names_sessions().len() <= sessions
             && ended.closed_naming().is_some() == closed,
@@ -46,7 +46,7 @@ listen names here -1
 listen names here x";
 
 /// Nothing was done.
-const USAGE: Told = Told {
+const USAGE: Reported = Reported {
     status: 2,
     line: b"usage\n",
     bound: false,
@@ -62,8 +62,8 @@ fn other_words_are_no_command(rt: HostRuntime) -> Result<(), Fail> {
 }
 
 /// The acceptor failed, when it was bound or not.
-const fn failed(bound: bool) -> Told {
-    Told {
+const fn failed(bound: bool) -> Reported {
+    Reported {
         status: 11,
         line: b"status 11\n",
         bound,

@@ -48,7 +48,7 @@ pub(crate) fn guest(alloc: Global, sends: &[u8]) -> Result<Guest, Memory> {
 
 /// How a server is to end: its status, its line, and whether its acceptor is bound once, to `here`, port 1.
 #[derive(Clone, Copy)]
-pub(crate) struct Told {
+pub(crate) struct Reported {
     pub status: u8,
     pub line: &'static [u8],
     pub bound: bool,
@@ -60,14 +60,18 @@ pub(crate) fn ends<G: Gate, R: Threads + Wait + Sync>(
     alloc: Global,
     line: &str,
     gate: &G,
-    told: Told,
+    content: Reported,
     accept: &mut Guests,
     ended: &mut KeepEnded<Guest>,
 ) -> Result<bool, Memory> {
     let args = words(alloc, line)?;
     let mut faults = MemSink::new(alloc, List::new(alloc));
     let status = listen_names(rt, alloc, args.as_slice(), accept, gate, &mut faults, ended);
-    Ok(status == told.status && faults.written() == told.line && is_bound(accept) == told.bound)
+    Ok(
+        status == content.status
+            && faults.written() == content.line
+            && is_bound(accept) == content.bound,
+    )
 }
 
 /// Whether the acceptor was bound once, to `here`, port 1.
@@ -79,7 +83,7 @@ fn is_bound(accept: &Guests) -> bool {
 }
 
 /// The server at `here`, port 1, that serves all.
-const SERVES: Told = Told {
+const SERVES: Reported = Reported {
     status: 0,
     line: b"",
     bound: true,

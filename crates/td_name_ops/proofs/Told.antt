@@ -4,7 +4,7 @@ use Rattle.std.proofs.Common.{subst}
 use Rattle.std.specs.Prelude.{◌↔◌}
 use Rattle.td_cdr.specs.Place.{At}
 use Rattle.td_cdr.specs.Reading.{after}
-use Rattle.td_cdr.specs.Spelling.{Found}
+use Rattle.td_cdr.specs.Spelling.{FoundSpelling}
 use Rattle.td_cdr.specs.Format.{Read}
 use Rattle.td_cdr.specs.Lawful.{AreOctets}
 use Rattle.td_cdr.specs.LawfulFormats.{read-admitted}
@@ -12,7 +12,7 @@ use Rattle.td_cdr.specs.declared.fault.CdrFault.TheVariants as cdr
 use Rattle.td_cdr.specs.declared.order.Order.{Order}
 use Rattle.td_cdr.specs.declared.value_fault.ValueFault.{ValueFault}
 use Rattle.td_cdr.specs.declared.value_fault.ValueFault.TheVariants as value
-use Rattle.td_ops.specs.Refusals.{told, Answers}
+use Rattle.td_ops.specs.Refusals.{reading_of, ReadsWritable}
 use Rattle.td_ops.specs.declared.fault.OpsFault.TheVariants.{BadOperation}
 use Rattle.td_name_ops.specs.Called.{operation_in}
 use Rattle.td_name_ops.specs.Calls.{AdmitsCall, Body, body_of, call_read, read_under}
@@ -45,21 +45,21 @@ row-tag NonExistent = refl
 
 called : (o : NameOperation) (order : Order) (place : ℕ) (c : NameCall) (b : List ℕ)
     → (body_of o).spells order place c b → operation_in c ≡ o
-called o order place c b s = sym ((row o).body.told order place c b s) ∙ row-tag o
+called o order place c b s = sym ((row o).body.content order place c b s) ∙ row-tag o
 
 -- ---- a call that was read
 
-told_ok : {X : Type 0} (r : Read ValueFault X) (x : X × At) → told r ≡ Ok x → r ≡ Ok x
-told_ok (Ok y) x e = cc
-told_ok (Err d) x e = absurd cc
+content_ok : {X : Type 0} (r : Read ValueFault X) (x : X × At) → reading_of r ≡ Ok x → r ≡ Ok x
+content_ok (Ok y) x e = cc
+content_ok (Err d) x e = absurd cc
 
 under_ok : (o : Option NameOperation) (a : At) (x : NameCall × At) → read_under o a ≡ Ok x
     → (operation : NameOperation) × (o ≡ Some operation) × ((body_of operation).reads a ≡ Ok x)
-under_ok (Some operation) a x e = (operation, refl, told_ok ((body_of operation).reads a) x e)
+under_ok (Some operation) a x e = (operation, refl, content_ok ((body_of operation).reads a) x e)
 under_ok None a x e = absurd cc
 
 pub call-found : (kind : NameKind) (name : List ℕ) (a : At) (c : NameCall) (next : At) → a.origin ≤ a.place
-    → call_read kind name a ≡ Ok (c, next) → Found (Body kind name) a c next
+    → call_read kind name a ≡ Ok (c, next) → FoundSpelling (Body kind name) a c next
 call-found kind name a c next h e =
     let u = under_ok (operation_named kind name) a (c, next) e in
     let f = (row u.0).body.lawful.found a c next h u.2 in
@@ -74,7 +74,7 @@ pub call-only : (kind : NameKind) (name : List ℕ) (a : At) (c : NameCall) (b r
     → Body kind name a.order (a.place - a.origin) c b → a.rest ≡ b ++ rest
     → call_read kind name a ≡ Ok (c, after (length b) a)
 call-only kind name a c b rest h s e =
-    rw s.named (ap told ((row s.operation).body.lawful.only a c b rest h s.spelled e))
+    rw s.named (ap reading_of ((row s.operation).body.lawful.only a c b rest h s.spelled e))
 
 -- what was read under an operation is a call of it
 read-called : (operation : NameOperation) (c : NameCall) (old new : At) → old.origin ≤ old.place
@@ -86,16 +86,16 @@ read-called operation c old new h is =
 -- and the answer
 pub call-answered : (kind : NameKind) (name : List ℕ) (old new : At) (operation : NameOperation) (c : NameCall)
     → operation_named kind name ≡ Some operation → old.origin ≤ old.place → AreOctets old.rest
-    → (body_of operation).reads old ≡ Ok (c, new) → Answers AdmitsCall (call_read kind name old) old new (Ok c)
+    → (body_of operation).reads old ≡ Ok (c, new) → ReadsWritable AdmitsCall (call_read kind name old) old new (Ok c)
 call-answered kind name old new operation c named h octets is = record {
-  gives = rw named (ap told is);
+  gives = rw named (ap reading_of is);
   unchanged = tt;
   admitted =
       subst (λ (o : NameOperation). (body_of o).admits c) (sym (read-called operation c old new h is))
       (read-admitted (body_of operation) (row operation).body.lawful old c new h octets is);
 }
 
-never_unknown : {X : Type 0} (r : Read ValueFault X) → told r ≡ Err BadOperation → ⊥
+never_unknown : {X : Type 0} (r : Read ValueFault X) → reading_of r ≡ Err BadOperation → ⊥
 never_unknown (Ok x) e = absurd cc
 never_unknown (Err (value.Cdr (cdr.Short place))) e = absurd cc
 never_unknown (Err (value.Cdr (cdr.BadBoolean place))) e = absurd cc

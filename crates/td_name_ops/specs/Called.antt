@@ -1,7 +1,7 @@
--- The operation of a call, and what an operation is: a name in a request, and the calls that its parameters make (CORBA,
--- chapter on General Inter-ORB Protocol, "Request Header" and "Request Body").
+-- The operation of a call, and what an operation is: a name in a request, and the calls that its parameters make
+-- (CORBA, chapter on General Inter-ORB Protocol, "Request Header" and "Request Body").
 use Rattle.std.specs.Prelude.{◌≡◌, ℕ, List, Option, Some, None}
-use Rattle.td_cdr.specs.Sound.{Sound, Arm, arm}
+use Rattle.td_cdr.specs.Sound.{Sound, FormatArm, arm}
 use Rattle.td_cdr.specs.declared.value_fault.ValueFault.{ValueFault}
 use Rattle.td_names.specs.declared.act.NameAct.{NameAct}
 use Rattle.td_names.specs.declared.act.NameAct.TheVariants as act
@@ -45,7 +45,7 @@ operation_in call.NonExistent = NonExistent
 
 pub record Row : Type 1 where
   pub name : List ℕ
-  pub body : Arm ValueFault NameOperation NameCall operation_in
+  pub body : FormatArm ValueFault NameOperation NameCall operation_in
 
 -- ---- the parameters of the calls of a class
 
@@ -56,8 +56,9 @@ of_act from _ = None
 abbrev pub act_arm : {X : Type 0} (o : ContextOperation) (to : X → NameAct)
     (from : NameAct → Option X)
     → ((x : X) → from (to x) ≡ Some x) → ((x : X) → Context o ≡ operation_in (call.Act (to x)))
-    → Sound ValueFault X → Arm ValueFault NameOperation NameCall operation_in
-act_arm o to from back told g = arm (Context o) (λ x. call.Act (to x)) (of_act from) back told g
+    → Sound ValueFault X → FormatArm ValueFault NameOperation NameCall operation_in
+act_arm o to from back content g = arm (Context o) (λ x. call.Act (to x)) (of_act from) back content
+    g
 
 abbrev pub of_iterator : {X : Type 0} → (IteratorCall → Option X) → NameCall → Option X
 of_iterator from (call.Iterator i) = from i
@@ -67,6 +68,6 @@ abbrev pub iterator_arm : {X : Type 0} (o : IteratorOperation) (to : X → Itera
     (from : IteratorCall → Option X)
     → ((x : X) → from (to x) ≡ Some x)
     → ((x : X) → Iterator o ≡ operation_in (call.Iterator (to x))) → Sound ValueFault X
-    → Arm ValueFault NameOperation NameCall operation_in
-iterator_arm o to from back told g = arm (Iterator o) (λ x. call.Iterator (to x))
-    (of_iterator from) back told g
+    → FormatArm ValueFault NameOperation NameCall operation_in
+iterator_arm o to from back content g = arm (Iterator o) (λ x. call.Iterator (to x))
+    (of_iterator from) back content g

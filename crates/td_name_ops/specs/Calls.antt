@@ -5,7 +5,7 @@ use Rattle.td_cdr.specs.declared.order.Order.{Order}
 use Rattle.td_cdr.specs.declared.value_fault.ValueFault.{ValueFault}
 use Rattle.td_cdr.specs.Format.{Format}
 use Rattle.td_cdr.specs.Place.{At}
-use Rattle.td_ops.specs.Refusals.{told}
+use Rattle.td_ops.specs.Refusals.{reading_of}
 use Rattle.td_ops.specs.declared.fault.OpsFault.{OpsFault}
 use Rattle.td_ops.specs.declared.fault.OpsFault.TheVariants.{BadOperation}
 use Rattle.td_name_ops.specs.Called.{operation_in}
@@ -27,7 +27,7 @@ pub record Body (kind : NameKind) (called : List ℕ) (order : Order) (place : �
 
 -- the call and where the reader then stands, or the first fault; an unknown operation before the body is looked at
 abbrev pub read_under : Option NameOperation → At → Result (NameCall × At) OpsFault
-read_under (Some operation) a = told ((body_of operation).reads a)
+read_under (Some operation) a = reading_of ((body_of operation).reads a)
 read_under None a = Err BadOperation
 
 abbrev pub call_read : NameKind → List ℕ → At → Result (NameCall × At) OpsFault

@@ -7,7 +7,7 @@ use Rattle.td_names.specs.declared.act.NameAct.TheVariants as act
 use Rattle.td_names.specs.declared.act.NameException.TheVariants as fault
 use Rattle.td_names.specs.declared.component.NameBinding.{NameBinding}
 use Rattle.td_names.specs.declared.component.NameComponent.{NameComponent}
-use Rattle.td_codes.specs.declared.reference.Ior.{Ior}
+use Rattle.td_typecode.specs.declared.reference.Ior.{Ior}
 use Rattle.td_ops.specs.declared.fault.OpsFault.TheVariants.{BadOperation, Marshal, NoImplement}
 use Rattle.td_ops.specs.declared.outcome.SystemKind.TheVariants.{ImpLimit}
 use Rattle.td_name_ops.specs.Calls.{call_read}

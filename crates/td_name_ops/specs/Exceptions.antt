@@ -4,7 +4,7 @@ use Rattle.std.specs.Prelude.{ℕ, List, ◌++◌, codes, Some, None, nat_lt, re
 use Rattle.td_cdr.specs.Format.{Piece, ◌then◌}
 use Rattle.td_cdr.specs.Sound.{Sound, ◌&◌, bad_value, constant, restriction, text, ulong, variant}
 use Rattle.td_cdr.specs.declared.value_fault.ValueFault.{ValueFault}
-use Rattle.td_codes.specs.References.{reference}
+use Rattle.td_typecode.specs.References.{reference}
 use Rattle.td_names.specs.Spelling.{name}
 use Rattle.td_names.specs.declared.act.NameException.{NameException}
 use Rattle.td_names.specs.declared.act.NameException.TheVariants as fault

@@ -2,7 +2,7 @@
 use Rattle.std.specs.Prelude.{◌≡◌, ℕ, ◌-◌, ◌≤◌, ◌↔◌, List, ◌++◌, length, map, codes, Some, None, Ok, Err}
 use Rattle.td_cdr.specs.Place.{At}
 use Rattle.td_cdr.specs.Reading.{after}
-use Rattle.td_cdr.specs.Spelling.{Found}
+use Rattle.td_cdr.specs.Spelling.{FoundSpelling}
 use Rattle.td_ops.specs.declared.fault.OpsFault.TheVariants.{BadOperation, NoImplement}
 use Rattle.td_name_ops.specs.Calls.{Body, call_read}
 use Rattle.td_name_ops.specs.Operations.{name_of, operation_named, operations}
@@ -29,7 +29,7 @@ IsNotImplemented = (a : At) → call_read Context (codes "rebind_context") a ≡
 abbrev pub ReadAsSpelled : Type 0
 ReadAsSpelled =
     (kind : NameKind) (called : List ℕ) (a : At) (c : NameCall) (next : At) → a.origin ≤ a.place
-    → call_read kind called a ≡ Ok (c, next) → Found (Body kind called) a c next
+    → call_read kind called a ≡ Ok (c, next) → FoundSpelling (Body kind called) a c next
 
 -- what is spelled so is read, whatever follows
 abbrev pub SpelledIsRead : Type 0

@@ -1,13 +1,13 @@
--- The operations of each object, a row each: its name in a request, and its parameters in the order of their declaration
--- (OMG's Naming Service, interfaces CosNaming::NamingContext and CosNaming::BindingIterator; CORBA, chapter "ORB
--- Interface", Object Interface Operations).
+-- The operations of each object, a row each: its name in a request, and its parameters in the order of their
+-- declaration (OMG's Naming Service, interfaces CosNaming::NamingContext and CosNaming::BindingIterator; CORBA, chapter
+-- "ORB Interface", Object Interface Operations).
 use Rattle.std.specs.Prelude.{ℕ, Option, List, [], ◌∷◌, codes, Some, None, refl}
 use Rattle.td_cdr.specs.Format.{value_named}
 use Rattle.td_cdr.specs.Place.{At}
 use Rattle.td_cdr.specs.Sound.{◌&◌, arm, bare_arm, failure, text, ulong}
 use Rattle.td_cdr.specs.declared.value_fault.ValueFault.{ValueFault}
 use Rattle.td_cdr.specs.declared.value_fault.ValueFault.TheVariants.{Unsupported}
-use Rattle.td_codes.specs.References.{reference}
+use Rattle.td_typecode.specs.References.{reference}
 use Rattle.td_names.specs.Spelling.{name}
 use Rattle.td_names.specs.declared.act.NameAct.TheVariants as act
 use Rattle.td_ops.specs.Operations.{first_name}

@@ -4,11 +4,11 @@
 use Rattle.std.specs.Prelude.{ℕ, Bool, true, false, List, [], Option, Some, None, length, nat_eq}
 use Rattle.td_cdr.specs.Format.{Piece, ◌then◌, none}
 use Rattle.td_cdr.specs.Sound.{◌&◌, boolean, sequence, text, ulong}
-use Rattle.td_codes.specs.Formats.{is_some}
-use Rattle.td_codes.specs.References.{profile, reference}
-use Rattle.td_codes.specs.declared.reference.Ior.{Ior}
-use Rattle.td_codes.specs.declared.reference.Profile.{Profile}
-use Rattle.td_names.specs.Spelling.{Parts, binding, binding_parts, parts_of}
+use Rattle.td_typecode.specs.Formats.{is_nonempty}
+use Rattle.td_typecode.specs.References.{profile, reference}
+use Rattle.td_typecode.specs.declared.reference.Ior.{Ior}
+use Rattle.td_typecode.specs.declared.reference.Profile.{Profile}
+use Rattle.td_names.specs.Spelling.{NameParts, binding, binding_parts, parts_of}
 use Rattle.td_names.specs.declared.component.NameBinding.{NameBinding}
 use Rattle.td_ops.specs.Outcomes.{system_piece}
 use Rattle.td_name_ops.specs.Exceptions.{exception_piece}
@@ -24,7 +24,7 @@ outcome_status (User e) = 1
 outcome_status (System kind minor completion) = 2
 
 -- next_one: that it is a binding and the binding; past the end a name of no components, of an object
-abbrev pub next_one_parts : Option NameBinding → Bool × Parts
+abbrev pub next_one_parts : Option NameBinding → Bool × NameParts
 next_one_parts (Some b) = (true, parts_of b)
 next_one_parts None = (false, ([], false))
 
@@ -33,7 +33,7 @@ next_one_piece b = (boolean & binding_parts).format.writes (next_one_parts b)
 
 -- next_n: whether there is a binding, and the bindings
 abbrev pub next_n_piece : List NameBinding → Piece
-next_n_piece bindings = (boolean & sequence binding).format.writes (is_some bindings, bindings)
+next_n_piece bindings = (boolean & sequence binding).format.writes (is_nonempty bindings, bindings)
 
 -- list: the bindings, and the iterator of those behind them
 abbrev pub list_piece : List NameBinding → Ior → Piece

@@ -20,8 +20,8 @@ pub fn operations_are_named()
 {}
 
 /// A call is read as its body is spelled, whatever follows, and only so. Its parameters are refused exactly where their
-/// bytes are at fault, with the fault of the first value that has no spelling. `BadOperation` is the fault exactly where
-/// the object has no operation of the name.
+/// bytes are at fault, with the fault of the first value that has no spelling. `BadOperation` is the fault exactly
+/// where the object has no operation of the name.
 pub fn calls_are_spelled()
     ensures lawful { (operation : Operation) → Lawful (body_of operation) }
     ensures refused { (operation : Operation)

@@ -2,9 +2,9 @@
 //! "Standard Exceptions").
 
 use td_cdr::List;
-use td_codes::Ior;
 use td_names::{NameBinding, NameException};
 use td_ops::SystemKind;
+use td_typecode::Ior;
 
 /// A result.
 #[derive(Drop)]

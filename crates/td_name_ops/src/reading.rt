@@ -5,16 +5,16 @@ ghost use Rattle.td_cdr.specs.Format.{Gives};
 ghost use Rattle.td_cdr.specs.ValueFaults.{is_memory};
 ghost use Rattle.td_name_ops.specs.Calls.{AdmitsCall, body_of, call_read};
 ghost use Rattle.td_name_ops.specs.Operations.{context_row, iterator_row};
-ghost use Rattle.td_ops.specs.Refusals.{Answers};
+ghost use Rattle.td_ops.specs.Refusals.{ReadsWritable};
 
 use crate::call::{IteratorCall, NameCall};
 use crate::finding::operation_named;
 use crate::operation::{ContextOperation, IteratorOperation, NameKind, NameOperation};
 use std::alloc::Global;
 use td_cdr::{List, Reader, Spelled, Text, ValueFault};
-use td_codes::Ior;
 use td_names::{NameAct, NameComponent};
 use td_ops::OpsFault;
+use td_typecode::Ior;
 
 /// The kind of TypeCode that stands for an operation that isn't implemented.
 const OBJECT_REFERENCE: u32 = 14;
@@ -25,15 +25,16 @@ const OBJECT_REFERENCE: u32 = 14;
 /// # Errors
 ///
 /// `BadOperation` exactly where the object has no such operation, before the body is looked at; `NoImplement` for
-/// `rebind_context`, whatever its body. Else the first fault in reading order, `Marshal` with its place. `Memory` for
-/// want of memory. The reader is then unchanged.
+/// `rebind_context`, whatever its body. Else the first fault in reading order, `Marshal` with its place. `Memory` when
+/// out of memory. The reader is then unchanged.
 pub fn read_name_call(
     alloc: Global,
     kind: NameKind,
     operation: &[u8],
     body: &mut Reader,
 ) -> Result<NameCall, OpsFault>
-    ensures { Answers AdmitsCall (call_read kind operation.now body.old) body.old body.new result }
+    ensures { ReadsWritable AdmitsCall (call_read kind operation.now body.old) body.old body.new
+        result }
 {
     let Some(operation) = operation_named(kind, operation) else {
         return Err(OpsFault::BadOperation);

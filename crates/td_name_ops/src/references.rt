@@ -2,13 +2,13 @@
 
 ghost use Rattle.std.specs.Prelude.{◌≡◌, ◌≤◌, IsTrue};
 ghost use Rattle.td_cdr.specs.Format.{Puts};
-ghost use Rattle.td_codes.specs.References.{reference};
+ghost use Rattle.td_typecode.specs.References.{reference};
 ghost use Rattle.td_name_ops.specs.Outcomes.{has_one_profile, one_profile_piece, only_profile_piece, profile_piece};
 ghost use Rattle.td_ops.specs.Outcomes.{FitsRoom};
 
 use std::alloc::Global;
 use td_cdr::{Memory, Spelled, Text, Writer};
-use td_codes::{Ior, Profile};
+use td_typecode::{Ior, Profile};
 
 /// Writes a reference. Where it fails, some of it may be written; one of one profile, as each of a context here is, is
 /// refused only for want of the writer's room.

@@ -30,7 +30,7 @@ pub fn name_status(outcome: &NameOutcome) -> u32
     }
 }
 
-/// Whether memory is wanted for an outcome in a writer's room alone: an empty result, a truth value, a reference of one
+/// Whether memory runs out for an outcome in a writer's room alone: an empty result, a truth value, a reference of one
 /// profile, and a system exception. Takes no memory.
 pub fn is_plain(outcome: &NameOutcome) -> bool
     ensures { result ≡ is_plain outcome.now }
@@ -60,7 +60,7 @@ fn is_plain_result(value: &NameResult) -> bool
 ///
 /// # Errors
 ///
-/// `Memory` for want of memory or of room; the writer is then unchanged. An empty result, a truth value, a reference of
+/// `Memory` when out of memory or of room; the writer is then unchanged. An empty result, a truth value, a reference of
 /// one profile and a system exception are refused only for want of the writer's room, which doesn't grow less then.
 pub fn write_name_outcome(
     alloc: Global,
@@ -117,12 +117,12 @@ fn put_result(alloc: Global, w: &mut Writer, value: &NameResult) -> Result<(), M
     }
 }
 
-/// Appends the result of `next_one`: a binding and that it is one, or that there is none, with an empty name of an object.
-/// Where it fails, some of it may be written.
+/// Appends the result of `next_one`: a binding and that it is one, or that there is none, with an empty name of an
+/// object. Where it fails, some of it may be written.
 ///
 /// # Errors
 ///
-/// `Memory` for want of memory or of room.
+/// `Memory` when out of memory or of room.
 pub fn put_next_one(
     alloc: Global,
     w: &mut Writer,

@@ -11,7 +11,7 @@ use td_name_ops::{NameKind, read_name_call};
 use td_ops::OpsFault;
 
 /// What a body tells, and how many of its bytes were read.
-fn told(
+fn content(
     alloc: Global,
     kind: NameKind,
     name: &str,
@@ -35,7 +35,7 @@ fn is_spelled(alloc: Global, line: &str, order: Order) -> Result<bool, Fail> {
     let (kind, rest) = cut(front);
     let (name, bodies) = cut(rest);
     let bytes = bytes_of(alloc, body_in(bodies, order), "ff00ff")?;
-    let (said, place) = told(alloc, kind_of(kind), name, &bytes, order)?;
+    let (said, place) = content(alloc, kind_of(kind), name, &bytes, order)?;
     Ok(said.as_slice() == expected.as_bytes() && place as usize + 3 == bytes.len())
 }
 
@@ -55,7 +55,7 @@ fn is_refused(alloc: Global, line: &str) -> Result<bool, Fail> {
     let (kind, rest) = cut(front);
     let (name, digits) = cut(rest);
     let bytes = bytes_of(alloc, digits, "")?;
-    let (said, place) = told(alloc, kind_of(kind), name, &bytes, Order::Big)?;
+    let (said, place) = content(alloc, kind_of(kind), name, &bytes, Order::Big)?;
     Ok(said.as_slice() == expected.as_bytes() && place == 0)
 }
 

@@ -6,10 +6,10 @@ use std::alloc::Global;
 use std::process::Abort;
 use std::test::Fail;
 use td_cdr::{Boxed, List, Memory, Octets, Order, Text, Writer};
-use td_codes::{Ior, Profile};
 use td_name_ops::{NameOutcome, NameResult, name_status, write_name_outcome};
 use td_names::{MISSING_NODE, NOT_CONTEXT, NOT_OBJECT, NameBinding, NameComponent, NameException};
 use td_ops::{COMPLETED_NO, SystemKind};
+use td_typecode::{Ior, Profile};
 
 fn component(alloc: Global, id: &[u8], kind: &[u8]) -> Result<NameComponent, Memory> {
     let id = Text::from_slice(alloc, id)?;

@@ -2,10 +2,10 @@
 
 use std::alloc::Global;
 use td_cdr::Memory;
-use td_codes::Ior;
 use td_name_ops::{IteratorCall, NameCall};
 use td_names::{NameAct, NameComponent};
 use td_ops::OpsFault;
+use td_typecode::Ior;
 
 /// The call, or why there is none.
 pub(crate) fn put_call(

@@ -1,5 +1,5 @@
 -- What each class of calls is performed by.
-use Rattle.td_name_session.proofs.Performing.{act_performs, is_a_performs, iterator_performs, list_performs}
-use Rattle.td_name_session.proofs.Performing.{non_existent_performs}
+use Rattle.td_name_session.proofs.Invoking.{act_invokes, is_a_invokes, iterator_invokes, list_invokes}
+use Rattle.td_name_session.proofs.Invoking.{non_existent_invokes}
 
-pub ruleset performs = (act_performs, is_a_performs, iterator_performs, list_performs, non_existent_performs)
+pub ruleset invokes = (act_invokes, is_a_invokes, iterator_invokes, list_invokes, non_existent_invokes)

@@ -3,7 +3,7 @@ use Rattle.std.proofs.Common.{◌≡◌, ℕ, List, [], refl, ap, subst, sym, in
 use Rattle.std.specs.List.{before_first}
 use Rattle.std.specs.Io.KnownBytes.{Appends}
 use Rattle.td_naming.specs.declared.history.NameChange.{NameChange}
-use Rattle.td_stream.specs.Exchanges.{Exchange, messages_of, output}
+use Rattle.td_stream.specs.Exchanges.{MessageExchange, messages_of, output}
 use Rattle.td_stream.specs.Messages.{is_closing}
 use Rattle.td_stream.specs.Outside.{Outside}
 use Rattle.td_stream.specs.declared.end.End.{End}
@@ -40,10 +40,10 @@ module _ (others : List NameChange → Type 0) where
                     subst (λ (x : Scene). Run others s t.turns x)
                     (ap (λ (x : Stage). x.scene) (sym all.stayed)) t.leads.run;
                 all =
-                    subst (λ (xs : List Exchange). messages_of xs ≡ before_first is_closing messages) (sym t.are)
+                    subst (λ (xs : List MessageExchange). messages_of xs ≡ before_first is_closing messages) (sym t.are)
                     all.all;
                 gave =
-                    subst (λ (xs : List Exchange). Appends before.written after.written (output xs)) (sym t.are)
+                    subst (λ (xs : List MessageExchange). Appends before.written after.written (output xs)) (sym t.are)
                     all.gave;
               },
             )

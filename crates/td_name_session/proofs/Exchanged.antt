@@ -4,16 +4,16 @@ use Rattle.std.proofs.lemmas.List.{append-nil}
 use Rattle.td_cdr.specs.Place.{At}
 use Rattle.td_giop.specs.Heads.{Request, request_at, locate_at, cancel_at}
 use Rattle.td_naming.specs.declared.history.NameChange.{NameChange}
-use Rattle.td_stream.specs.Exchanges.{Exchange, Run as StreamRun}
+use Rattle.td_stream.specs.Exchanges.{MessageExchange, Run as StreamRun}
 use Rattle.td_stream.specs.Messages.{behind, kind_of, minor_of}
 use Rattle.td_stream.specs.Outside.{Outside}
 use Rattle.td_stream.specs.Steps.{answers, step_of}
-use Rattle.td_stream.specs.Streams.{Finishes, Streams}
+use Rattle.td_stream.specs.Streams.{StreamFinishes, Streams}
 use Rattle.td_stream.specs.declared.end.End.{End}
 use Rattle.td_name_session.proofs.Leading.{journal-append, leads-kept, leads-then}
 use Rattle.td_name_session.specs.Scenes.{Scene}
 use Rattle.td_name_session.specs.Sessions.{Serves}
-use Rattle.td_name_session.specs.Stages.{Leads, ServesMessage, Stage, Stays, stage, turn_of}
+use Rattle.td_name_session.specs.Stages.{TurnsLead, ServesMessage, Stage, Stays, stage, turn_of}
 use Rattle.td_name_session.specs.Turns.{IsTurn, Run, Turn, exchanges_of, journal_of}
 use Rattle.td_name_session.specs.Turns.IsTurn.{request, locate, cancel}
 
@@ -42,12 +42,12 @@ module _ (others : List NameChange → Type 0) where
   -- ---- from exchanges to turns
 
   -- turns with these messages and replies
-  pub record Turned (s u : Stage) (xs : List Exchange) : Type 0 where
+  pub record Turned (s u : Stage) (xs : List MessageExchange) : Type 0 where
     pub turns : List Turn
-    pub leads : Leads others turns s u
+    pub leads : TurnsLead others turns s u
     pub are : exchanges_of turns ≡ xs
 
-  pub turned : (s u : Stage) (xs : List Exchange) → StreamRun (ServesMessage others) s xs u → Turned s u xs
+  pub turned : (s u : Stage) (xs : List MessageExchange) → StreamRun (ServesMessage others) s xs u → Turned s u xs
   turned s u [] r = record { turns = []; leads = leads-kept others s u r; are = refl }
   turned s u (x ∷ xs) r =
       let first = r.1.served in
@@ -56,7 +56,7 @@ module _ (others : List NameChange → Type 0) where
       record {
         turns = t ∷ rest.turns;
         leads = leads-then others s r.0 u (t ∷ []) rest.turns first.leads rest.leads;
-        are = ap (λ (l : List Exchange). x ∷ l) rest.are;
+        are = ap (λ (l : List MessageExchange). x ∷ l) rest.are;
       }
 
   -- with nothing noted at first
@@ -65,13 +65,13 @@ module _ (others : List NameChange → Type 0) where
       → Serves others s.scene u.scene u.journal end before after
   session_served s u end before after first r =
       let t = turned s r.last r.exchanges r.run in
-      let leads : Leads others t.turns s u =
-      subst (λ (x : Stage). Leads others t.turns s x) (sym r.stayed) t.leads in
+      let leads : TurnsLead others t.turns s u =
+      subst (λ (x : Stage). TurnsLead others t.turns s x) (sym r.stayed) t.leads in
       record {
         turns = t.turns;
         run = leads.run;
         noted = leads.noted ∙ ap (λ (x : List ℕ). x ++ journal_of t.turns) first;
-        stream = subst (λ (xs : List Exchange). Finishes xs end before after [] 0 0) (sym t.are) r.stream;
+        stream = subst (λ (xs : List MessageExchange). StreamFinishes xs end before after [] 0 0) (sym t.are) r.stream;
       }
 
   -- ---- from turns to exchanges

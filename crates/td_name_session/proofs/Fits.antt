@@ -9,7 +9,7 @@ use Rattle.td_giop.proofs.Lengths.{reply_start_length}
 use Rattle.td_name_ops.specs.Outcomes.{is_plain, outcome_piece}
 use Rattle.td_name_ops.specs.declared.outcome.NameOutcome.{NameOutcome}
 use Rattle.td_ops.specs.Outcomes.{FitsRoom}
-use Rattle.td_name_session.specs.Settling.{AlwaysFits}
+use Rattle.td_name_session.specs.Finishing.{AlwaysFits}
 
 -- a Reply was begun with its head alone
 pub head_length : (before bytes : List ℕ) (order : Order) (minor id status : ℕ) → before ≡ []

@@ -8,7 +8,7 @@ use Rattle.std.specs.List.{AllByRecursion}
 use Rattle.std.specs.Prelude.{slice_get, ◌↔◌}
 use Rattle.td_cdr.specs.Place.{At}
 use Rattle.td_cdr.specs.Writing.{Draft}
-use Rattle.td_codes.specs.declared.reference.Ior.{Ior}
+use Rattle.td_typecode.specs.declared.reference.Ior.{Ior}
 use Rattle.td_name_ops.specs.Outcomes.{outcome_status}
 use Rattle.td_name_ops.specs.declared.call.IteratorCall.{IteratorCall}
 use Rattle.td_name_ops.specs.declared.call.IteratorCall.TheVariants as iter
@@ -32,18 +32,19 @@ use Rattle.td_names.specs.declared.component.NameComponent.{NameComponent}
 use Rattle.td_naming.proofs.Accepting.{legal_more, refusal_unaccepted}
 use Rattle.td_naming.proofs.Following.{accepted_stand, resolves as act_resolves, stays_legal}
 use Rattle.td_naming.specs.Histories.{Legal, change_at, is_accepted}
-use Rattle.td_naming.specs.Views.{Acts, Meanwhile, View, store_seen, with_own}
+use Rattle.td_naming.specs.Views.{NamingActs, Meanwhile, View, store_seen, with_own}
 use Rattle.td_naming.specs.declared.history.NameChange.{NameChange}
 use Rattle.td_ior.proofs.Keys.{some-is}
-use Rattle.td_name_session.proofs.Performing.{idle_act}
+use Rattle.td_name_session.proofs.Invoking.{idle_act}
 use Rattle.td_name_session.specs.Judging.{JudgesOption}
 use Rattle.td_name_session.specs.Keys.{context_in, key_of}
 use Rattle.td_name_session.specs.Laws.{AcceptedStand, OwnPlacesAreAccepted, PointsRise, RefusalsChangeNothing}
-use Rattle.td_name_session.specs.Laws.{ResolvesByReach, Rises, SeenGoesOn, Stands, place_by, place_in, places_of}
+use Rattle.td_name_session.specs.Laws.{ResolvesByReach, NeverFalls, SeenGoesOn, Stands, place_by, place_in, places_of}
 use Rattle.td_name_session.specs.Outcomes.{no_memory, outcome_of}
-use Rattle.td_name_session.specs.Requests.{ActComes, Answers, CallComes, Comes, CutsList, IteratorDone}
-use Rattle.td_name_session.specs.Scenes.{Finds, Idles, Kept, Scene, scene}
-use Rattle.td_name_session.specs.Turns.{FindsKey, IsTurn, Noted, Run, Turn, journal_of, point_in, point_of}
+use Rattle.td_name_session.specs.Requests.{ActComes, AnswersRequest, CallComes, OutcomeOfRequest, CutsList}
+use Rattle.td_name_session.specs.Requests.{IteratorDone}
+use Rattle.td_name_session.specs.Scenes.{FindsObject, Idles, IteratorList, Scene, scene}
+use Rattle.td_name_session.specs.Turns.{FindsKey, IsTurn, ServedRequest, Run, Turn, journal_of, point_in, point_of}
 use Rattle.td_name_session.specs.Turns.{seen_in}
 use Rattle.td_name_session.specs.Turns.IsTurn.{request, locate, cancel}
 use Rattle.td_name_session.specs.declared.judging.Judged.{Judged}
@@ -105,17 +106,17 @@ module _ (others : List NameChange → Type 0) where
   moves-idle v u (inl e) = moves-none v u e
   moves-idle v u (inr m) = moves-meanwhile v u m
 
-  moves-find : (v : View) (d : Kept) (key : NameKey) (live : Bool) (u : View) → Finds others v d key live u
+  moves-find : (v : View) (d : IteratorList) (key : NameKey) (live : Bool) (u : View) → FindsObject others v d key live u
       → Moves v u false
   moves-find v d (Context n) live u h = moves-meanwhile v u h.meanwhile
   moves-find v d (Iterator n) live u h = moves-none v u h.1
 
-  moves-key : (v : View) (d : Kept) (key : Option NameKey) (live : Bool) (u : View) → FindsKey others v d key live u
+  moves-key : (v : View) (d : IteratorList) (key : Option NameKey) (live : Bool) (u : View) → FindsKey others v d key live u
       → Moves v u false
   moves-key v d None live u h = moves-none v u h.1
   moves-key v d (Some key) live u h = moves-find v d key live u h
 
-  moves-judge : (v : View) (d : Kept) (key : Option NameKey) (operation : List ℕ) (body : At) (j : Judged) (u : View)
+  moves-judge : (v : View) (d : IteratorList) (key : Option NameKey) (operation : List ℕ) (body : At) (j : Judged) (u : View)
       → JudgesOption others v d key operation body j u → Moves v u false
   moves-judge v d None operation body j u h = moves-none v u h.1
   moves-judge v d (Some key) operation body j u h = moves-find v d key h.live u h.finds
@@ -130,7 +131,7 @@ module _ (others : List NameChange → Type 0) where
       ap (λ (y : View). y.history)
       (is ∙ ap (λ (b : Bool). cond b (with_own seen (change_at (store_seen seen) n x)) seen) e)
 
-  moves-accepted : (v u : View) (n : ℕ) (x : NameAct) (r : NameAnswer) (h : Acts others v n x r u)
+  moves-accepted : (v u : View) (n : ℕ) (x : NameAct) (r : NameAnswer) (h : NamingActs others v n x r u)
       → is_accepted x r ≡ true → Moves v u true
   moves-accepted v u n x r h flag =
       let stands = accepted_stand others v u n x r h flag in
@@ -153,7 +154,7 @@ module _ (others : List NameChange → Type 0) where
         legal = λ l. stays_legal others v u n x r h l;
       }
 
-  moves-act : (v u : View) (n : ℕ) (x : NameAct) (r : NameAnswer) (accepted : Bool) → Acts others v n x r u
+  moves-act : (v u : View) (n : ℕ) (x : NameAct) (r : NameAnswer) (accepted : Bool) → NamingActs others v n x r u
       → accepted ≡ is_accepted x r → Moves v u accepted
   moves-act v u n x r accepted h is = elim (cases_Bool (is_accepted x r)) [
     | inl yes_ ↦ subst (λ (b : Bool). Moves v u b) (sym (is ∙ yes_)) (moves-accepted v u n x r h yes_)
@@ -178,29 +179,29 @@ module _ (others : List NameChange → Type 0) where
       moves-flag s.names t.names b h.2 (moves-none s.names t.names (ap (λ (x : Scene). x.names) h.1))
 
   moves-answer : (j : Judged) (draft : Draft) (s : Scene) (o : NameOutcome) (b : Bool) (t : Scene)
-      → Answers others j draft s o b t → Moves s.names t.names b
+      → AnswersRequest others j draft s o b t → Moves s.names t.names b
   moves-answer (Refused k minor) draft s o b t (inl h) =
       moves-flag s.names t.names b h.2 (moves-none s.names t.names (ap (λ (x : Scene). x.names) h.1))
   moves-answer (Call key c) draft s o b t (inl h) = moves-call key c draft s o b t h
   moves-answer j draft s o b t (inr u) = moves-flag s.names t.names b u.is (moves-idle s.names t.names u.idles)
 
   -- whether the turn is an accepted change
-  abbrev accepts : Option Noted → Bool
+  abbrev accepts : Option ServedRequest → Bool
   accepts None = false
   accepts (Some n) = n.accepted
 
   moves-turn : (s : Scene) (t : Turn) → IsTurn others s t → Moves s.names t.after.names (accepts t.request)
   moves-turn s t (request r) =
       let h = r.serves in
-      subst (λ (x : Option Noted). Moves s.names t.after.names (accepts x)) (sym r.request)
+      subst (λ (x : Option ServedRequest). Moves s.names t.after.names (accepts x)) (sym r.request)
       (moves-then s.names h.looked t.after.names h.noted.accepted
       (moves-judge s.names s.desk (key_of r.head.key) r.head.operation r.body h.noted.judged h.looked h.asks)
       (moves-answer h.noted.judged h.draft (scene h.looked s.desk) h.noted.outcome h.noted.accepted t.after h.answers))
   moves-turn s t (locate l) =
-      subst (λ (x : Option Noted). Moves s.names t.after.names (accepts x)) (sym l.request)
+      subst (λ (x : Option ServedRequest). Moves s.names t.after.names (accepts x)) (sym l.request)
       (moves-key s.names s.desk (key_of l.key) l.live t.after.names l.finds)
   moves-turn s t (cancel c) =
-      subst (λ (x : Option Noted). Moves s.names t.after.names (accepts x)) (sym c.request)
+      subst (λ (x : Option ServedRequest). Moves s.names t.after.names (accepts x)) (sym c.request)
       (moves-none s.names t.after.names (ap (λ (x : Scene). x.names) c.kept))
 
   -- ---- the point of a turn
@@ -210,7 +211,7 @@ module _ (others : List NameChange → Type 0) where
   IsPoint seen accepted [] = accepted ≡ false
   IsPoint seen accepted (p ∷ ps) = (p ≡ point_of seen accepted) × (ps ≡ [])
 
-  abbrev HasPoint : ℕ → Option ℕ → Option Noted → Type 0
+  abbrev HasPoint : ℕ → Option ℕ → Option ServedRequest → Type 0
   HasPoint seen point asked = IsPoint seen (accepts asked) (point_in point)
 
   point_right : (s : Scene) (t : Turn) → IsTurn others s t → HasPoint (seen_in t.after) t.point t.request
@@ -218,17 +219,17 @@ module _ (others : List NameChange → Type 0) where
       let seen = seen_in t.after in
       let here : HasPoint seen (Some r.point) (Some r.serves.noted) = (r.serves.point_is, refl) in
       subst (λ (o : Option ℕ). HasPoint seen o t.request) (sym r.point_is)
-      (subst (λ (n : Option Noted). HasPoint seen (Some r.point) n) (sym r.request) here)
+      (subst (λ (n : Option ServedRequest). HasPoint seen (Some r.point) n) (sym r.request) here)
   point_right s t (locate l) =
       let seen = seen_in t.after in
       let here : HasPoint seen (Some seen) None = (refl, refl) in
       subst (λ (o : Option ℕ). HasPoint seen o t.request) (sym l.point)
-      (subst (λ (n : Option Noted). HasPoint seen (Some seen) n) (sym l.request) here)
+      (subst (λ (n : Option ServedRequest). HasPoint seen (Some seen) n) (sym l.request) here)
   point_right s t (cancel c) =
       let seen = seen_in t.after in
       let here : HasPoint seen None None = refl in
       subst (λ (o : Option ℕ). HasPoint seen o t.request) (sym c.point)
-      (subst (λ (n : Option Noted). HasPoint seen None n) (sym c.request) here)
+      (subst (λ (n : Option ServedRequest). HasPoint seen None n) (sym c.request) here)
 
   low_point : (v u : View) (accepted : Bool) → Moves v u accepted → length v.history ≤ point_of (length u.history) accepted
   low_point v u true m = omega (arith, m.some refl)
@@ -245,14 +246,14 @@ module _ (others : List NameChange → Type 0) where
 
   -- ---- points rise
 
-  rises-low : (a b : ℕ) (ns : List ℕ) (high : ℕ) → a ≤ b → Rises b ns high → Rises a ns high
+  rises-low : (a b : ℕ) (ns : List ℕ) (high : ℕ) → a ≤ b → NeverFalls b ns high → NeverFalls a ns high
   rises-low a b [] high le h = omega (arith, le, h)
   rises-low a b (n ∷ ns) high le h = let less : a ≤ n = omega (arith, le, h.0) in (less, h.1)
 
   rises-on : (low : ℕ) (t : Turn) (v : View) (points ns : List ℕ) (high : ℕ)
       → IsPoint (seen_in t.after) (accepts t.request) points → Moves v t.after.names (accepts t.request)
-      → low ≡ length v.history → Rises (seen_in t.after) ns high
-      → Rises low (points ++ ns) high
+      → low ≡ length v.history → NeverFalls (seen_in t.after) ns high
+      → NeverFalls low (points ++ ns) high
   rises-on low t v [] ns high is m e h =
       rises-low low (seen_in t.after) ns high
       (let less : low ≤ seen_in t.after = omega (arith, e, grown v t.after.names (accepts t.request) m) in less) h
@@ -261,7 +262,7 @@ module _ (others : List NameChange → Type 0) where
       omega (arith, e, is.0, low_point v t.after.names (accepts t.request) m) in
       let le : p ≤ seen_in t.after = omega (arith, is.0, high_point (seen_in t.after) (accepts t.request)) in (
         first,
-        subst (λ (xs : List ℕ). Rises p (xs ++ ns) high) (sym is.1) (rises-low p (seen_in t.after) ns high le h),
+        subst (λ (xs : List ℕ). NeverFalls p (xs ++ ns) high) (sym is.1) (rises-low p (seen_in t.after) ns high le h),
       )
 
   pub points-rise : PointsRise others
@@ -274,7 +275,7 @@ module _ (others : List NameChange → Type 0) where
 
   -- ---- one's own places
 
-  place_right : (u : View) (points : List ℕ) (asked : Option Noted) → IsPoint (length u.history) (accepts asked) points
+  place_right : (u : View) (points : List ℕ) (asked : Option ServedRequest) → IsPoint (length u.history) (accepts asked) points
       → place_by asked points ≡ last_place u (accepts asked)
   place_right u points None is = refl
   place_right u [] (Some n) is =
@@ -328,7 +329,7 @@ module _ (others : List NameChange → Type 0) where
   at_seam (x ∷ xs) y ys = at_seam xs y ys
 
   -- what rises from above a point stays above it
-  above : (p low : ℕ) (ns : List ℕ) (high : ℕ) → p < low → Rises low ns high → AllByRecursion (λ n. p < n) ns
+  above : (p low : ℕ) (ns : List ℕ) (high : ℕ) → p < low → NeverFalls low ns high → AllByRecursion (λ n. p < n) ns
   above p low [] high less h = tt
   above p low (n ∷ ns) high less h =
       let here : p < n = omega (arith, less, h.0) in (here, above p n ns high here h.1)
@@ -339,7 +340,7 @@ module _ (others : List NameChange → Type 0) where
     act : NameAct
     judged : j ≡ Call key (call.Act act)
     answer : NameAnswer
-    acts : Acts others v (context_in key) act answer u
+    acts : NamingActs others v (context_in key) act answer u
     accepted : is_accepted act answer ≡ true
 
   no_act : (v u : View) (j : Judged) (b : Bool) → b ≡ false → b ≡ true → IsAct v j u
@@ -361,13 +362,13 @@ module _ (others : List NameChange → Type 0) where
   call_act key call.NonExistent draft s o b t h yes_ = no_act s.names t.names _ b h.2 yes_
 
   answer_act : (j : Judged) (draft : Draft) (s : Scene) (o : NameOutcome) (b : Bool) (t : Scene)
-      → Answers others j draft s o b t → b ≡ true → IsAct s.names j t.names
+      → AnswersRequest others j draft s o b t → b ≡ true → IsAct s.names j t.names
   answer_act (Refused k minor) draft s o b t (inl h) yes_ = no_act s.names t.names _ b h.2 yes_
   answer_act (Call key c) draft s o b t (inl h) yes_ = call_act key c draft s o b t h yes_
   answer_act j draft s o b t (inr u) yes_ = no_act s.names t.names _ b u.is yes_
 
   -- the change of a Request that was accepted, with what is seen later
-  request_stands : (u : Scene) (t : Turn) (rest : List Turn) (n : Noted) (point : ℕ) (looked : View)
+  request_stands : (u : Scene) (t : Turn) (rest : List Turn) (n : ServedRequest) (point : ℕ) (looked : View)
       → t.request ≡ Some n → t.point ≡ Some point → point ≡ point_of (seen_in t.after) n.accepted → n.accepted ≡ true
       → IsAct looked n.judged t.after.names → Run others t.after rest u → Stands u t rest
   request_stands u t rest n point looked is noted point_is yes_ x run =
@@ -379,8 +380,8 @@ module _ (others : List NameChange → Type 0) where
         ap (λ (k : List NameChange). length k) stands.history,
         length-append stands.before (stands.change ∷ []),
       ) in
-      let told : point ≡ seen_in t.after - 1 = point_is ∙ ap (λ (b : Bool). point_of (seen_in t.after) b) yes_ in
-      let here : point ≡ length stands.before = omega (arith, told, long) in
+      let content : point ≡ seen_in t.after - 1 = point_is ∙ ap (λ (b : Bool). point_of (seen_in t.after) b) yes_ in
+      let here : point ≡ length stands.before = omega (arith, content, long) in
       let less : point < seen_in t.after = omega (arith, here, long) in
       let whole : u.names.history ≡ stands.before ++ stands.change ∷ on.0 =
       on.1 ∙ ap (λ (k : List NameChange). k ++ on.0) stands.history ∙ append_assoc stands.before (stands.change ∷ []) on.0 in
@@ -401,14 +402,14 @@ module _ (others : List NameChange → Type 0) where
         later = above point (seen_in t.after) (journal_of rest) (seen_in u) less (points-rise t.after u rest run);
       }
 
-  none-is : (t : Turn) (n : Noted) → t.request ≡ None → t.request ≡ Some n → ⊥
+  none-is : (t : Turn) (n : ServedRequest) → t.request ≡ None → t.request ≡ Some n → ⊥
   none-is t n e f = cc
 
-  turn_stands : (m u : Scene) (t : Turn) (rest : List Turn) (n : Noted) → IsTurn others m t → t.request ≡ Some n
+  turn_stands : (m u : Scene) (t : Turn) (rest : List Turn) (n : ServedRequest) → IsTurn others m t → t.request ≡ Some n
       → n.accepted ≡ true → Run others t.after rest u → Stands u t rest
   turn_stands m u t rest n (request r) is yes_ run =
       let same : r.serves.noted ≡ n = some-is r.serves.noted n (sym r.request ∙ is) in
-      let flag : r.serves.noted.accepted ≡ true = ap (λ (x : Noted). x.accepted) same ∙ yes_ in
+      let flag : r.serves.noted.accepted ≡ true = ap (λ (x : ServedRequest). x.accepted) same ∙ yes_ in
       request_stands u t rest r.serves.noted r.point r.serves.looked r.request r.point_is r.serves.point_is flag
       (answer_act r.serves.noted.judged r.serves.draft (scene r.serves.looked m.desk) r.serves.noted.outcome
       r.serves.noted.accepted t.after r.serves.answers flag) run
@@ -430,10 +431,10 @@ module _ (others : List NameChange → Type 0) where
   unaccepted x (answer.User e) h = refusal_unaccepted x (answer.User e) refl
   unaccepted x (answer.System e) h = refusal_unaccepted x (answer.System e) refl
 
-  refused_list : (home : Home) (r : NameAnswer) (m : ℕ) (draft : Draft) (d : Kept) (o : NameOutcome) (e : Kept)
+  refused_list : (home : Home) (r : NameAnswer) (m : ℕ) (draft : Draft) (d : IteratorList) (o : NameOutcome) (e : IteratorList)
       → CutsList home r m draft d o e → (outcome_status o ≡ 0 → ⊥) → e ≡ d
   refused_list home (answer.Done (reply.Bindings bs)) m draft d o e h no_ =
-      absurd (no_ (ap (λ (x : NameOutcome). outcome_status x) h.told))
+      absurd (no_ (ap (λ (x : NameOutcome). outcome_status x) h.content))
   refused_list home (answer.Done reply.Nothing) m draft d o e h no_ = h.1
   refused_list home (answer.Done (reply.Object x)) m draft d o e h no_ = h.1
   refused_list home (answer.User x) m draft d o e h no_ = h.1
@@ -442,11 +443,11 @@ module _ (others : List NameChange → Type 0) where
   done_not : (o : NameOutcome) (r : NameResult) → o ≡ outcome.Done r → (outcome_status o ≡ 0 → ⊥) → ⊥
   done_not o r e no_ = no_ (ap (λ (x : NameOutcome). outcome_status x) e)
 
-  refused_iterator : (n : ℕ) (left : Option (List NameBinding)) (i : IteratorCall) (draft : Draft) (d : Kept)
-      (o : NameOutcome) (e : Kept) → IteratorDone n left i draft d o e → (outcome_status o ≡ 0 → ⊥) → e ≡ d
+  refused_iterator : (n : ℕ) (left : Option (List NameBinding)) (i : IteratorCall) (draft : Draft) (d : IteratorList)
+      (o : NameOutcome) (e : IteratorList) → IteratorDone n left i draft d o e → (outcome_status o ≡ 0 → ⊥) → e ≡ d
   refused_iterator n None i draft d o e h no_ = h.1
   refused_iterator n (Some left) iter.NextOne draft d o e h no_ = absurd (done_not o _ h.0 no_)
-  refused_iterator n (Some left) (iter.NextN m) draft d o e h no_ = absurd (done_not o _ h.told no_)
+  refused_iterator n (Some left) (iter.NextN m) draft d o e h no_ = absurd (done_not o _ h.content no_)
   refused_iterator n (Some left) iter.Destroy draft d o e h no_ = absurd (done_not o _ h.0 no_)
 
   -- the iterators are as they were
@@ -460,7 +461,7 @@ module _ (others : List NameChange → Type 0) where
   refused_call key call.NonExistent draft s o b t h no_ = ap (λ (x : Scene). x.desk) h.1
 
   refused_answer : (j : Judged) (draft : Draft) (s : Scene) (o : NameOutcome) (b : Bool) (t : Scene)
-      → Answers others j draft s o b t → (outcome_status o ≡ 0 → ⊥) → t.desk ≡ s.desk
+      → AnswersRequest others j draft s o b t → (outcome_status o ≡ 0 → ⊥) → t.desk ≡ s.desk
   refused_answer (Refused k minor) draft s o b t (inl h) no_ = ap (λ (x : Scene). x.desk) h.1
   refused_answer (Call key c) draft s o b t (inl h) no_ = refused_call key c draft s o b t h no_
   refused_answer j draft s o b t (inr u) no_ = u.desk
@@ -470,14 +471,14 @@ module _ (others : List NameChange → Type 0) where
       → CallComes others key c draft s o b t → (outcome_status o ≡ 0 → ⊥) → b ≡ false
   unaccepted_call key (call.Act x) draft s o b t h no_ =
       h.is
-      ∙ unaccepted x h.answer (λ e. no_ (ap (λ (y : NameOutcome). outcome_status y) h.told ∙ e))
+      ∙ unaccepted x h.answer (λ e. no_ (ap (λ (y : NameOutcome). outcome_status y) h.content ∙ e))
   unaccepted_call key (call.List n) draft s o b t h no_ = h.1
   unaccepted_call key (call.Iterator i) draft s o b t h no_ = h.2
   unaccepted_call key (call.IsA id) draft s o b t h no_ = h.2
   unaccepted_call key call.NonExistent draft s o b t h no_ = h.2
 
   unaccepted_answer : (j : Judged) (draft : Draft) (s : Scene) (o : NameOutcome) (b : Bool) (t : Scene)
-      → Answers others j draft s o b t → (outcome_status o ≡ 0 → ⊥) → b ≡ false
+      → AnswersRequest others j draft s o b t → (outcome_status o ≡ 0 → ⊥) → b ≡ false
   unaccepted_answer (Refused k minor) draft s o b t (inl h) no_ = h.2
   unaccepted_answer (Call key c) draft s o b t (inl h) no_ = unaccepted_call key c draft s o b t h no_
   unaccepted_answer j draft s o b t (inr u) no_ = u.is
@@ -487,13 +488,13 @@ module _ (others : List NameChange → Type 0) where
       let h = r.serves in
       let same : h.noted ≡ n = some-is h.noted n (sym r.request ∙ is) in
       let none : outcome_status h.noted.outcome ≡ 0 → ⊥ =
-      λ e. no_ (ap (λ (x : Noted). outcome_status x.outcome) (sym same) ∙ e) in
+      λ e. no_ (ap (λ (x : ServedRequest). outcome_status x.outcome) (sym same) ∙ e) in
       let flag : h.noted.accepted ≡ false =
       unaccepted_answer h.noted.judged h.draft (scene h.looked s.desk) h.noted.outcome h.noted.accepted t.after
       h.answers none in
       let moved : Moves s.names t.after.names false =
       subst (λ (b : Bool). Moves s.names t.after.names b)
-      (ap (λ (x : Option Noted). accepts x) r.request ∙ flag) (moves-turn s t (request r)) in (
+      (ap (λ (x : Option ServedRequest). accepts x) r.request ∙ flag) (moves-turn s t (request r)) in (
         own_same s.names t.after.names moved,
         refused_answer h.noted.judged h.draft (scene h.looked s.desk) h.noted.outcome h.noted.accepted t.after
             h.answers none,
@@ -504,14 +505,14 @@ module _ (others : List NameChange → Type 0) where
   -- ---- names are resolved by what they reach
 
   -- an answer that is told as an object is one
-  object_told : (r : NameAnswer) (object : Ior) → outcome_of r ≡ outcome.Done (result.Object object)
+  object_content : (r : NameAnswer) (object : Ior) → outcome_of r ≡ outcome.Done (result.Object object)
       → r ≡ answer.Done (reply.Object object)
-  object_told (answer.Done reply.Nothing) object e = absurd cc
-  object_told (answer.Done (reply.Object x)) object e =
+  object_content (answer.Done reply.Nothing) object e = absurd cc
+  object_content (answer.Done (reply.Object x)) object e =
       ap (λ (y : Ior). answer.Done (reply.Object y)) (let same : x ≡ object = cc in same)
-  object_told (answer.Done (reply.Bindings bs)) object e = absurd cc
-  object_told (answer.User x) object e = absurd cc
-  object_told (answer.System x) object e = absurd cc
+  object_content (answer.Done (reply.Bindings bs)) object e = absurd cc
+  object_content (answer.User x) object e = absurd cc
+  object_content (answer.System x) object e = absurd cc
 
   resolves_call : (key : NameKey) (name : List NameComponent) (s : Scene) (o : NameOutcome) (b : Bool) (t : Scene)
       (object : Ior) → ActComes others (context_in key) (act.Resolve name) s o b t → name_fits name ≡ true
@@ -520,18 +521,18 @@ module _ (others : List NameChange → Type 0) where
   resolves_call key name s o b t object h fits live =
       let both =
       act_resolves others s.names t.names (context_in key) name h.answer object h.acts fits live in (
-        λ done. both.0 (object_told h.answer object (sym h.told ∙ done)),
-        λ reach. h.told ∙ ap outcome_of (both.1 reach),
+        λ done. both.0 (object_content h.answer object (sym h.content ∙ done)),
+        λ reach. h.content ∙ ap outcome_of (both.1 reach),
       )
 
   resolves_answer : (j : Judged) (key : NameKey) (name : List NameComponent) (draft : Draft) (s : Scene)
-      (o : NameOutcome) (b : Bool) (t : Scene) (object : Ior) → Answers others j draft s o b t
+      (o : NameOutcome) (b : Bool) (t : Scene) (object : Ior) → AnswersRequest others j draft s o b t
       → j ≡ Call key (call.Act (act.Resolve name)) → name_fits name ≡ true
       → is_live (store_seen t.names) (context_in key) ≡ true → (o ≡ no_memory → ⊥)
       → (o ≡ outcome.Done (result.Object object)) ↔ Reach (store_seen t.names) (context_in key) name object
   resolves_answer j key name draft s o b t object (inl h) is fits live some =
-      resolves_call key name s o b t object (subst (λ (x : Judged). Comes others x draft s o b t) is h) fits live
-  resolves_answer j key name draft s o b t object (inr u) is fits live some = absurd (some u.told)
+      resolves_call key name s o b t object (subst (λ (x : Judged). OutcomeOfRequest others x draft s o b t) is h) fits live
+  resolves_answer j key name draft s o b t object (inr u) is fits live some = absurd (some u.content)
 
   pub resolves : ResolvesByReach others
   resolves s t n key name object (request r) is judged fits live some =
@@ -540,9 +541,9 @@ module _ (others : List NameChange → Type 0) where
       subst
       (λ (x : NameOutcome). (x ≡ outcome.Done (result.Object object))
       ↔ Reach (store_seen t.after.names) (context_in key) name object)
-      (ap (λ (x : Noted). x.outcome) same)
+      (ap (λ (x : ServedRequest). x.outcome) same)
       (resolves_answer h.noted.judged key name h.draft (scene h.looked s.desk) h.noted.outcome h.noted.accepted t.after
-      object h.answers (ap (λ (x : Noted). x.judged) same ∙ judged) fits live
-      (λ e. some (ap (λ (x : Noted). x.outcome) (sym same) ∙ e)))
+      object h.answers (ap (λ (x : ServedRequest). x.judged) same ∙ judged) fits live
+      (λ e. some (ap (λ (x : ServedRequest). x.outcome) (sym same) ∙ e)))
   resolves s t n key name object (locate l) is judged fits live some = absurd (none-is t n l.request is)
   resolves s t n key name object (cancel c) is judged fits live some = absurd (none-is t n c.request is)

@@ -4,23 +4,23 @@ use Rattle.std.proofs.Common.{Option, Some, None, ◌∙◌}
 use Rattle.std.specs.List.{list_any}
 use Rattle.std.specs.Prelude.{option_map}
 use Rattle.td_ior.proofs.Keys.{some-is}
-use Rattle.td_iter.specs.declared.desk.Entry.{Entry}
+use Rattle.td_iter.specs.declared.desk.DeskEntry.{DeskEntry}
 use Rattle.td_iter.specs.Desks.{LiveOf, is_called, is_live, item_of, place_of, with_item, with_item_at}
 
 module _ {X : Type 0} where
   -- ---- what is found first, and its place
 
-  kept_by : (trader : List ℕ) (number : ℕ) (e : Entry X) (es : List (Entry X)) (item : X) (b : Bool)
+  kept_by : (trader : List ℕ) (number : ℕ) (e : DeskEntry X) (es : List (DeskEntry X)) (item : X) (b : Bool)
       → (option_map (λ x. x.item) (find (is_called trader number) es) ≡ Some item
       → with_item_at es (place_of trader number es) item ≡ es)
-      → option_map (λ (x : Entry X). x.item) (if b then Some e else find (is_called trader number) es) ≡ Some item
+      → option_map (λ (x : DeskEntry X). x.item) (if b then Some e else find (is_called trader number) es) ≡ Some item
       → with_item_at (e ∷ es) (if b then 0 else suc (place_of trader number es)) item ≡ e ∷ es
   kept_by trader number e es item true behind found =
       let same : e.item ≡ item = some-is e.item item found in
       ap (λ (x : X). record e { item = x } ∷ es) (sym same)
-  kept_by trader number e es item false behind found = ap (λ (xs : List (Entry X)). e ∷ xs) (behind found)
+  kept_by trader number e es item false behind found = ap (λ (xs : List (DeskEntry X)). e ∷ xs) (behind found)
 
-  entries_kept : (trader : List ℕ) (number : ℕ) (es : List (Entry X)) (item : X)
+  entries_kept : (trader : List ℕ) (number : ℕ) (es : List (DeskEntry X)) (item : X)
       → option_map (λ x. x.item) (find (is_called trader number) es) ≡ Some item
       → with_item_at es (place_of trader number es) item ≡ es
   entries_kept trader number [] item e = refl
@@ -30,7 +30,7 @@ module _ {X : Type 0} where
   -- a desk whose iterator has what it had is as it was
   pub item_kept : (trader : List ℕ) (number : ℕ) (d : LiveOf X) (item : X) → item_of trader number d ≡ Some item
       → with_item trader number d item ≡ d
-  item_kept trader number d item e = ap (λ (es : List (Entry X)). (es, d.1)) (entries_kept trader number d.0 item e)
+  item_kept trader number d item e = ap (λ (es : List (DeskEntry X)). (es, d.1)) (entries_kept trader number d.0 item e)
 
   -- ---- whether there is one
 
@@ -38,12 +38,12 @@ module _ {X : Type 0} where
   has None = false
   has (Some x) = true
 
-  has_by : (e : Entry X) (o : Option (Entry X)) (b any : Bool) → has (option_map (λ x. x.item) o) ≡ any
+  has_by : (e : DeskEntry X) (o : Option (DeskEntry X)) (b any : Bool) → has (option_map (λ x. x.item) o) ≡ any
       → has (option_map (λ x. x.item) (if b then Some e else o)) ≡ (b || any)
   has_by e o true any h = refl
   has_by e o false any h = h
 
-  has_one : (trader : List ℕ) (number : ℕ) (es : List (Entry X))
+  has_one : (trader : List ℕ) (number : ℕ) (es : List (DeskEntry X))
       → has (option_map (λ x. x.item) (find (is_called trader number) es)) ≡ list_any (is_called trader number) es
   has_one trader number [] = refl
   has_one trader number (e ∷ es) =

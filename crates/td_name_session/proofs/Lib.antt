@@ -7,7 +7,7 @@ pub mod Judgements
 pub mod Keeping
 pub mod Leading
 pub mod Messages
-pub mod Performing
+pub mod Invoking
 pub mod Replying
 pub mod Short
 pub mod Small

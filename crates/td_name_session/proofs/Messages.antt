@@ -10,14 +10,14 @@ use Rattle.td_naming.specs.declared.history.NameChange.{NameChange}
 use Rattle.td_stream.specs.Heads.{IsMessage}
 use Rattle.td_stream.specs.Messages.{behind, minor_of, order_of}
 use Rattle.td_name_session.specs.ReplyBytes.{reply_to}
-use Rattle.td_name_session.specs.Scenes.{Kept}
+use Rattle.td_name_session.specs.Scenes.{IteratorList}
 use Rattle.td_name_session.specs.Stages.{NotesHead, NotesLocate, ServesMessage, Stage, turn_of}
 use Rattle.td_name_session.specs.Turns.{ServesCancel, ServesLocate, ServesRequest, seen_in}
 use Rattle.td_name_session.specs.Turns.IsTurn.{cancel as cancel_turn, locate as locate_turn, request as request_turn}
 
 -- the first iterator's number is small
-pub first_number : (d : Kept) → d ≡ ([], 1) → d.1 ≤ 2 ^ 62
-first_number d e = omega (arith, ap (λ (x : Kept). x.1) e)
+pub first_number : (d : IteratorList) → d ≡ ([], 1) → d.1 ≤ 2 ^ 62
+first_number d e = omega (arith, ap (λ (x : IteratorList). x.1) e)
 
 module _ (others : List NameChange → Type 0) where
   noted_so : (s u : Stage) (m : Raw) (reply : List ℕ) (head : Request) (body : At) → IsMessage m → m.kind ≡ 0
@@ -75,7 +75,7 @@ module _ (others : List NameChange → Type 0) where
         request = refl;
         live = n.live;
         finds = n.finds;
-        told = n.told;
+        content = n.content;
         point = refl;
         desk = n.desk;
       } in
@@ -95,14 +95,14 @@ module _ (others : List NameChange → Type 0) where
   pub cancel_served : (s : Stage) (m : Raw) (id : ℕ) (reply : List ℕ) → IsMessage m → m.kind ≡ 2
       → cancel_at (behind_header m.order m.bytes.now) ≡ Ok id → reply ≡ []
       → ServesMessage others s m.bytes.now reply s
-  cancel_served s m id reply is kind read told =
+  cancel_served s m id reply is kind read content =
       let serves : ServesCancel others s.scene (turn_of m.bytes.now None None reply s.scene) = record {
         id = id;
         kind = sym is.kind ∙ kind;
         read = subst (λ (o : Order). cancel_at (behind_header o m.bytes.now) ≡ Ok id) is.order read;
         request = refl;
         point = refl;
-        told = told;
+        content = content;
         kept = refl;
       } in
       record {

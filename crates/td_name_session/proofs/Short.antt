@@ -13,10 +13,10 @@ use Rattle.td_name_ops.specs.declared.outcome.NameOutcome.TheVariants as outcome
 use Rattle.td_name_ops.specs.declared.outcome.NameResult.TheVariants as result
 use Rattle.td_names.proofs.Changing.{changes_or_keeps}
 use Rattle.td_names.proofs.Leading.{own-short}
-use Rattle.td_names.specs.Applying.{applied, at_place, context_bound_anew, done_where}
+use Rattle.td_names.specs.Applying.{apply_act, at_place, context_bound_anew, done_where}
 use Rattle.td_names.specs.Applying.{next_number, next_reference, unless_full, with_bound_context, with_context}
-use Rattle.td_names.specs.Changing.{Changes, change_reply}
-use Rattle.td_names.specs.Changing.Changes.{refused as by_refusal, other, accepted}
+use Rattle.td_names.specs.Changing.{ChangesStore, change_reply}
+use Rattle.td_names.specs.Changing.ChangesStore.{refused as by_refusal, other, accepted}
 use Rattle.td_names.specs.Limits.{most_contexts}
 use Rattle.td_names.specs.References.{IsAddress, reference_of}
 use Rattle.td_names.specs.Stores.{Bindings, Store, bindings_full, bindings_of, bound_in, changes_full, contexts_full}
@@ -32,13 +32,13 @@ use Rattle.td_names.specs.declared.component.Bound.{Bound}
 use Rattle.td_names.specs.declared.component.NameComponent.{NameComponent}
 use Rattle.td_naming.proofs.Accepting.{home_there, refusal_unaccepted}
 use Rattle.td_naming.specs.Histories.{after_all, after_change, is_accepted}
-use Rattle.td_naming.specs.Views.{Acts, View, store_seen}
+use Rattle.td_naming.specs.Views.{NamingActs, View, store_seen}
 use Rattle.td_naming.specs.declared.history.NameChange.{NameChange}
 use Rattle.td_ops.specs.Outcomes.{system_id, system_piece}
 use Rattle.td_ops.specs.declared.outcome.SystemKind.{SystemKind}
 use Rattle.td_ops.specs.declared.outcome.SystemKind.TheVariants as kind
-use Rattle.td_name_session.specs.Outcomes.{outcome_of, refused, system}
-use Rattle.td_name_session.specs.Settling.{AlwaysFits}
+use Rattle.td_name_session.specs.Outcomes.{outcome_of, refusal_outcome, system}
+use Rattle.td_name_session.specs.Finishing.{AlwaysFits}
 
 -- ---- system exceptions
 
@@ -82,7 +82,7 @@ system-short k minor completion =
     (then-short 7 7 (ulong.format.writes minor) (ulong.format.writes completion) (number-short minor)
     (number-short completion))
 
-pub refused_fits : (k : SystemKind) (minor : ℕ) → AlwaysFits (refused k minor)
+pub refused_fits : (k : SystemKind) (minor : ℕ) → AlwaysFits (refusal_outcome k minor)
 refused_fits k minor = record {
   plain = refl;
   short = λ order. let whole = (system-short k minor 1).short order 24 in omega (arith, whole, id-short k);
@@ -91,8 +91,8 @@ refused_fits k minor = record {
 pub system_fits : (k : SystemKind) → AlwaysFits (system k)
 system_fits k = refused_fits k 0
 
-pub told_fits : (k : SystemKind) (o : NameOutcome) → o ≡ system k → AlwaysFits o
-told_fits k o e = subst AlwaysFits (sym e) (system_fits k)
+pub content_fits : (k : SystemKind) (o : NameOutcome) → o ≡ system k → AlwaysFits o
+content_fits k o e = subst AlwaysFits (sym e) (system_fits k)
 
 -- ---- results
 
@@ -154,7 +154,7 @@ made_where s c name None e = absurd (let no : ⊥ = omega (arith, e) in no)
 made_where s c name (Some bs) e = made_at s name (place s c name) e
 
 -- the reply of a change that was made at this store
-reply_fits : (s : Store) (c : ℕ) (a : NameAct) → IsAddress s.home → (applied s c a).0.changes ≡ s.changes + 1
+reply_fits : (s : Store) (c : ℕ) (a : NameAct) → IsAddress s.home → (apply_act s c a).0.changes ≡ s.changes + 1
     → AlwaysFits (outcome_of (Done (change_reply s a)))
 reply_fits s c act.NewContext home more =
     context_fits s.home (next_number s) home (few_made s (made_here s c (bindings_of s c) more))
@@ -168,8 +168,8 @@ reply_fits s c (act.Unbind name) home more = nothing_fits
 reply_fits s c act.Destroy home more = nothing_fits
 reply_fits s c act.List home more = nothing_fits
 
-answer_fits : (s : Store) (c : ℕ) (a : NameAct) (r : NameAnswer) → IsAddress s.home → (applied s c a).1 ≡ r
-    → Changes s a r (applied s c a).0 → is_accepted a r ≡ true → AlwaysFits (outcome_of r)
+answer_fits : (s : Store) (c : ℕ) (a : NameAct) (r : NameAnswer) → IsAddress s.home → (apply_act s c a).1 ≡ r
+    → ChangesStore s a r (apply_act s c a).0 → is_accepted a r ≡ true → AlwaysFits (outcome_of r)
 answer_fits s c a r home is (by_refusal h e) flag = absurd (true≢false (sym flag ∙ refusal_unaccepted a r h))
 answer_fits s c a r home is (other h e) flag =
     let no_ : is_accepted a r ≡ false = rw h refl in absurd (true≢false (sym flag ∙ no_))
@@ -186,11 +186,11 @@ pub home_seen : (v : View) → (store_seen v).home ≡ v.home
 home_seen v = home_after (start v.home) v.history
 
 module _ (others : List NameChange → Type 0) where
-  pub accepted_fits : (v u : View) (c : ℕ) (a : NameAct) (r : NameAnswer) → IsAddress v.home → Acts others v c a r u
+  pub accepted_fits : (v u : View) (c : ℕ) (a : NameAct) (r : NameAnswer) → IsAddress v.home → NamingActs others v c a r u
       → is_accepted a r ≡ true → AlwaysFits (outcome_of r)
   accepted_fits v u c a r address h flag =
       let s = store_seen h.seen in
       let home : s.home ≡ v.home = home_seen h.seen ∙ ap (λ (x : View). x.home) h.meanwhile.is in
       answer_fits s c a r (subst IsAddress (sym home) address) (sym h.answer)
-      (subst (λ (x : NameAnswer). Changes s a x (applied s c a).0) (sym h.answer)
-      (changes_or_keeps s (applied s c a).0 c a (applied s c a).1 refl)) flag
+      (subst (λ (x : NameAnswer). ChangesStore s a x (apply_act s c a).0) (sym h.answer)
+      (changes_or_keeps s (apply_act s c a).0 c a (apply_act s c a).1 refl)) flag

@@ -4,9 +4,9 @@ use Rattle.std.proofs.Common.{length-append}
 use Rattle.std.proofs.lemmas.Fmt.{length-decimal-le}
 use Rattle.std.specs.Fmt.{decimal}
 use Rattle.std.specs.Prelude.{IfOk}
-use Rattle.td_cdr.specs.declared.memory.Memory.{Memory as Wanting}
+use Rattle.td_cdr.specs.declared.memory.Memory.{Memory as OutOfMemory}
 use Rattle.td_cdr.specs.declared.order.Order.TheVariants.{Big}
-use Rattle.td_codes.specs.declared.reference.Ior.{Ior}
+use Rattle.td_typecode.specs.declared.reference.Ior.{Ior}
 use Rattle.td_iter.specs.Heads.{IsSmallReference}
 use Rattle.td_name_session.specs.Keys.{iterator_id, iterator_key, iterator_reference}
 use Rattle.td_names.proofs.Lengths.{made_reference-short}
@@ -26,7 +26,7 @@ small home n a h =
     let id : length iterator_id ≡ 41 = refl in
     omega (arith, key, whole, id, a.short)
 
-pub if_small : (home : Home) (n : ℕ) (r : Result Ior Wanting) → IsAddress home → n < 2 ^ 64
+pub if_small : (home : Home) (n : ℕ) (r : Result Ior OutOfMemory) → IsAddress home → n < 2 ^ 64
     → IfOk r (λ x. x ≡ iterator_reference home n) → IfOk r IsSmallReference
 if_small home n (Ok x) a h e = subst IsSmallReference (sym e) (small home n a h)
 if_small home n (Err x) a h e = tt

@@ -15,17 +15,17 @@ use Rattle.td_name_session.specs.Turns.{Run, Turn, exchanges_of}
 module _ (others : List NameChange → Type 0) where
   -- The messages before the first that closes the session, or all of them, were served in order, each where the one
   -- before has left everything, and their answers were given.
-  pub record ServesAll (s u : Scene) (before after : Outside)
+  pub record AnswersAll (s u : Scene) (before after : Outside)
       (messages : List (List ℕ)) : Type 0 where
     pub turns : List Turn
     pub run : Run others s turns u
     pub all : messages_of (exchanges_of turns) ≡ before_first is_closing messages
     pub gave : Appends before.written after.written (output (exchanges_of turns))
 
-  -- the session was closed when it had served these messages, or it ended for want of memory
+  -- the session was closed when it had served these messages, or it ended when out of memory
   abbrev pub IsComplete : Scene → Scene → End → Outside → Outside → List (List ℕ) → Type 0
   IsComplete s u end before after messages =
-      ((end ≡ Closed) × ServesAll s u before after messages) ⊎ (end ≡ Memory)
+      ((end ≡ Closed) × AnswersAll s u before after messages) ⊎ (end ≡ Memory)
 
   -- so it is wherever the source is such messages and none of the outside failed
   abbrev pub Completes : Scene → Scene → End → Outside → Outside → Type 0

@@ -12,13 +12,13 @@ use Rattle.td_names.specs.References.{reference_of}
 use Rattle.td_names.specs.declared.act.NameAct.TheVariants as act
 use Rattle.td_names.specs.declared.act.NameException.TheVariants as fault
 use Rattle.td_names.specs.declared.component.NameBinding.{NameBinding}
-use Rattle.td_naming.specs.Alone.{nothing}
+use Rattle.td_naming.specs.Alone.{no_changes}
 use Rattle.td_naming.specs.Examples.{bare, bound, make, made}
 use Rattle.td_ops.specs.declared.outcome.SystemKind.TheVariants.{BadOperation, ObjectNotExist}
 use Rattle.td_name_session.specs.Keys.{desk_label, iterator_reference, key_of}
-use Rattle.td_name_session.specs.Outcomes.{refused, system}
-use Rattle.td_name_session.specs.Requests.{Comes, IteratorDone, kept_for}
-use Rattle.td_name_session.specs.Scenes.{Kept, Scene, scene}
+use Rattle.td_name_session.specs.Outcomes.{refusal_outcome, system}
+use Rattle.td_name_session.specs.Requests.{OutcomeOfRequest, IteratorDone, kept_for}
+use Rattle.td_name_session.specs.Scenes.{IteratorList, Scene, scene}
 use Rattle.td_name_session.specs.declared.judging.Judged.TheVariants.{Call, Refused}
 use Rattle.td_name_session.specs.declared.keys.NameKey.TheVariants.{Context, Iterator}
 
@@ -42,25 +42,25 @@ abbrev pub second : NameBinding
 second = record { name = x; context = false }
 
 -- two bindings are kept in the iterator 1, of which one is given; then none are left
-abbrev pub kept : Kept
-kept = kept_for (first ∷ second ∷ []) ([], 1)
+abbrev pub two_kept : IteratorList
+two_kept = kept_for (first ∷ second ∷ []) ([], 1)
 
-abbrev pub left : List NameBinding → Kept
+abbrev pub left : List NameBinding → IteratorList
 left bindings = (record { trader = desk_label; number = 1; item = bindings } ∷ [], 2)
 
 pub record WorkedIterator (draft : Draft) : Type 0 where
-  pub keeps : kept ≡ left (first ∷ second ∷ [])
+  pub keeps : two_kept ≡ left (first ∷ second ∷ [])
   -- where nothing is left no iterator is made
   pub keeps_none : kept_for [] ([], 1) ≡ ([], 1)
-  pub gives : IteratorDone 1 (item_of desk_label 1 kept) iter.NextOne draft kept
+  pub gives : IteratorDone 1 (item_of desk_label 1 two_kept) iter.NextOne draft two_kept
       (outcome.Done (result.NextOne (Some first))) (left (second ∷ []))
   -- an iterator at its end stays
   pub ends : IteratorDone 1 (item_of desk_label 1 (left [])) iter.NextOne draft (left [])
       (outcome.Done (result.NextOne None)) (left [])
-  pub destroys : IteratorDone 1 (item_of desk_label 1 kept) iter.Destroy draft kept
+  pub destroys : IteratorDone 1 (item_of desk_label 1 two_kept) iter.Destroy draft two_kept
       (outcome.Done result.Nothing) ([], 2)
-  pub unknown : IteratorDone 2 (item_of desk_label 2 kept) iter.Destroy draft kept
-      (system ObjectNotExist) kept
+  pub unknown : IteratorDone 2 (item_of desk_label 2 two_kept) iter.Destroy draft two_kept
+      (system ObjectNotExist) two_kept
 
 -- ---- Requests
 
@@ -75,17 +75,20 @@ with_binding = scene bound ([], 1)
 
 pub record WorkedRequests (draft : Draft) : Type 0 where
   -- an accepted change: the context 2 is made
-  pub makes : Comes nothing (Call (Context 1) (call.Act make)) draft at_first
+  pub makes : OutcomeOfRequest no_changes (Call (Context 1) (call.Act make)) draft at_first
       (outcome.Done (result.Object (reference_of home 2))) true with_context
-  pub resolves : Comes nothing (Call (Context 1) (call.Act (act.Resolve (a ∷ x ∷ [])))) draft
+  pub resolves : OutcomeOfRequest no_changes
+      (Call (Context 1) (call.Act (act.Resolve (a ∷ x ∷ [])))) draft
       with_binding (outcome.Done (result.Object p1)) false with_binding
   -- a refused change
-  pub already : Comes nothing (Call (Context 1) (call.Act make)) draft with_context
+  pub already : OutcomeOfRequest no_changes (Call (Context 1) (call.Act make)) draft with_context
       (outcome.User fault.AlreadyBound) false with_context
-  pub is_a : Comes nothing (Call (Context 1) (call.IsA (codes "IDL:omg.org/CORBA/Object:1.0")))
+  pub is_a : OutcomeOfRequest no_changes
+      (Call (Context 1) (call.IsA (codes "IDL:omg.org/CORBA/Object:1.0")))
       draft at_first (outcome.Done (result.Truth true)) false at_first
-  pub is_no_iterator : Comes nothing
+  pub is_no_iterator : OutcomeOfRequest no_changes
       (Call (Context 1) (call.IsA (codes "IDL:omg.org/CosNaming/BindingIterator:1.0"))) draft
       at_first (outcome.Done (result.Truth false)) false at_first
-  pub refuses : Comes nothing (Refused BadOperation 0) draft at_first (refused BadOperation 0) false
+  pub refuses : OutcomeOfRequest no_changes (Refused BadOperation 0) draft at_first
+      (refusal_outcome BadOperation 0) false
       at_first

@@ -10,7 +10,7 @@ use Rattle.td_ops.specs.declared.fault.OpsFault.{OpsFault}
 use Rattle.td_ops.specs.declared.fault.OpsFault.TheVariants as fault
 use Rattle.td_ops.specs.declared.outcome.SystemKind.TheVariants as system
 use Rattle.td_name_session.specs.Keys.{key_of, kind_of}
-use Rattle.td_name_session.specs.Scenes.{Finds, Kept}
+use Rattle.td_name_session.specs.Scenes.{FindsObject, IteratorList}
 use Rattle.td_name_session.specs.declared.judging.Judged.{Judged}
 use Rattle.td_name_session.specs.declared.judging.Judged.TheVariants.{Call, Refused}
 use Rattle.td_name_session.specs.declared.keys.NameKey.{NameKey}
@@ -36,16 +36,18 @@ judged_if live key operation body = cond live (judged_body key operation body)
 
 module _ (others : List NameChange → Type 0) where
   -- an object's Request is judged at what is seen of it
-  pub record JudgesKey (v : View) (d : Kept) (key : NameKey) (operation : List ℕ) (body : At)
+  pub record JudgesKey (v : View) (d : IteratorList) (key : NameKey) (operation : List ℕ)
+      (body : At)
       (j : Judged) (u : View) : Type 0 where
     pub live : Bool
-    pub finds : Finds others v d key live u
+    pub finds : FindsObject others v d key live u
     pub is : j ≡ judged_if live key operation body
 
-  abbrev pub JudgesOption : View → Kept → Option NameKey → List ℕ → At → Judged → View → Type 0
+  abbrev pub JudgesOption : View → IteratorList → Option NameKey → List ℕ → At → Judged → View
+      → Type 0
   JudgesOption v d None operation body j u = (j ≡ Refused system.ObjectNotExist 0) × (u ≡ v)
   JudgesOption v d (Some key) operation body j u = JudgesKey v d key operation body j u
 
   -- a Request with this key is judged so
-  abbrev pub Judges : View → Kept → List ℕ → List ℕ → At → Judged → View → Type 0
-  Judges v d key operation body j u = JudgesOption v d (key_of key) operation body j u
+  abbrev pub JudgesRequest : View → IteratorList → List ℕ → List ℕ → At → Judged → View → Type 0
+  JudgesRequest v d key operation body j u = JudgesOption v d (key_of key) operation body j u

@@ -1,7 +1,7 @@
 -- What holds of every run of a session's turns, whatever others do to the contexts meanwhile.
 use Rattle.std.specs.Prelude.{◌≡◌, ℕ, ◌<◌, ◌≤◌, ◌↔◌, true, cond, List, [], ◌∷◌, ◌++◌, Option, Some, None, slice_get}
 use Rattle.std.specs.List.{AllByRecursion}
-use Rattle.td_codes.specs.declared.reference.Ior.{Ior}
+use Rattle.td_typecode.specs.declared.reference.Ior.{Ior}
 use Rattle.td_name_ops.specs.Outcomes.{outcome_status}
 use Rattle.td_name_ops.specs.declared.call.NameCall.TheVariants as call
 use Rattle.td_name_ops.specs.declared.outcome.NameOutcome.TheVariants.{Done}
@@ -18,17 +18,17 @@ use Rattle.td_naming.specs.declared.history.NameChange.{NameChange}
 use Rattle.td_name_session.specs.Keys.{context_in}
 use Rattle.td_name_session.specs.Outcomes.{no_memory}
 use Rattle.td_name_session.specs.Scenes.{Scene}
-use Rattle.td_name_session.specs.Turns.{IsTurn, Noted, Run, Turn, journal_of, point_in, seen_in}
+use Rattle.td_name_session.specs.Turns.{IsTurn, ServedRequest, Run, Turn, journal_of, point_in, seen_in}
 use Rattle.td_name_session.specs.declared.judging.Judged.TheVariants.{Call}
 use Rattle.td_name_session.specs.declared.keys.NameKey.{NameKey}
 
 -- numbers that never fall, from a low to a high one
-abbrev pub Rises : (low : ℕ) → List ℕ → (high : ℕ) → Type 0
-Rises low [] high = low ≤ high
-Rises low (n ∷ ns) high = (low ≤ n) × Rises n ns high
+abbrev pub NeverFalls : (low : ℕ) → List ℕ → (high : ℕ) → Type 0
+NeverFalls low [] high = low ≤ high
+NeverFalls low (n ∷ ns) high = (low ≤ n) × NeverFalls n ns high
 
 -- the place of a turn's accepted change
-abbrev pub place_by : Option Noted → List ℕ → List ℕ
+abbrev pub place_by : Option ServedRequest → List ℕ → List ℕ
 place_by None points = []
 place_by (Some n) points = cond n.accepted points []
 
@@ -48,7 +48,7 @@ pub record Stands (u : Scene) (t : Turn) (rest : List Turn) : Type 0 where
   pub stands : slice_get u.names.history point ≡ Some change
   pub key : NameKey
   pub act : NameAct
-  pub request : Noted
+  pub request : ServedRequest
   pub is : t.request ≡ Some request
   pub judged : request.judged ≡ Call key (call.Act act)
   pub same : (change.context ≡ context_in key) × (change.act ≡ act)
@@ -58,7 +58,7 @@ module _ (others : List NameChange → Type 0) where
   -- the points never fall, from how much of the history was seen before to how much is seen behind
   abbrev pub PointsRise : Type 0
   PointsRise = (s u : Scene) (ts : List Turn) → Run others s ts u
-      → Rises (seen_in s) (journal_of ts) (seen_in u)
+      → NeverFalls (seen_in s) (journal_of ts) (seen_in u)
 
   -- the places of one's own changes are those of the accepted ones, in order
   abbrev pub OwnPlacesAreAccepted : Type 0
@@ -75,7 +75,7 @@ module _ (others : List NameChange → Type 0) where
   -- each accepted change stands at its point, and later points are above it
   abbrev pub AcceptedStand : Type 0
   AcceptedStand =
-      (s u : Scene) (before rest : List Turn) (t : Turn) (n : Noted)
+      (s u : Scene) (before rest : List Turn) (t : Turn) (n : ServedRequest)
       → Run others s (before ++ t ∷ rest) u
       → t.request ≡ Some n → n.accepted ≡ true → Stands u t rest
 
@@ -83,15 +83,16 @@ module _ (others : List NameChange → Type 0) where
   -- were
   abbrev pub RefusalsChangeNothing : Type 0
   RefusalsChangeNothing =
-      (s : Scene) (t : Turn) (n : Noted) → IsTurn others s t → t.request ≡ Some n
+      (s : Scene) (t : Turn) (n : ServedRequest) → IsTurn others s t → t.request ≡ Some n
       → (outcome_status n.outcome ≡ 0 → ⊥)
       → (t.after.names.own ≡ s.names.own) × (t.after.desk ≡ s.desk)
 
-  -- a name within the limits is resolved to an object exactly where it reaches it at what is seen then, or memory was
-  -- wanted
+  -- a name within the limits is resolved to an object exactly where it reaches it at what is seen then, or memory
+  -- ran out
   abbrev pub ResolvesByReach : Type 0
   ResolvesByReach =
-      (s : Scene) (t : Turn) (n : Noted) (key : NameKey) (name : List NameComponent) (object : Ior)
+      (s : Scene) (t : Turn) (n : ServedRequest) (key : NameKey) (name : List NameComponent)
+      (object : Ior)
       → IsTurn others s t
       → t.request ≡ Some n → n.judged ≡ Call key (call.Act (act.Resolve name))
       → name_fits name ≡ true

@@ -5,11 +5,11 @@ pub mod Keys
 pub mod Laws
 pub mod NumberLaws
 pub mod Outcomes
-pub mod Performing
+pub mod Invoking
 pub mod ReplyBytes
 pub mod Requests
 pub mod Scenes
 pub mod Sessions
-pub mod Settling
+pub mod Finishing
 pub mod Stages
 pub mod Turns

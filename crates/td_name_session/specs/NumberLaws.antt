@@ -15,8 +15,9 @@ use Rattle.td_names.specs.declared.address.Address.{Address as Home}
 use Rattle.td_names.specs.declared.component.NameBinding.{NameBinding}
 use Rattle.td_naming.specs.declared.history.NameChange.{NameChange}
 use Rattle.td_stream.specs.Messages.{is_request, kind_of}
-use Rattle.td_name_session.specs.Requests.{Answers, CallComes, Comes, CutsList, IteratorDone, kept_for}
-use Rattle.td_name_session.specs.Scenes.{Kept, Scene}
+use Rattle.td_name_session.specs.Requests.{AnswersRequest, CallComes, OutcomeOfRequest, CutsList, IteratorDone}
+use Rattle.td_name_session.specs.Requests.{kept_for}
+use Rattle.td_name_session.specs.Scenes.{IteratorList, Scene}
 use Rattle.td_name_session.specs.Stages.{ServesMessage, Stage, turn_of}
 use Rattle.td_name_session.specs.Turns.{IsTurn, Turn}
 use Rattle.td_name_session.specs.Turns.IsTurn.{request, locate, cancel}
@@ -24,22 +25,23 @@ use Rattle.td_name_session.specs.declared.judging.Judged.{Judged}
 use Rattle.td_name_session.specs.declared.judging.Judged.TheVariants.{Call, Refused}
 use Rattle.td_name_session.specs.declared.keys.NameKey.{NameKey}
 
-abbrev number : Kept → ℕ
+abbrev number : IteratorList → ℕ
 number d = d.1
 
 -- one more at most
-abbrev Rises : Kept → Kept → Type 0
+abbrev Rises : IteratorList → IteratorList → Type 0
 Rises d e = number e ≤ number d + 1
 
-same : (d e : Kept) → e ≡ d → Rises d e
+same : (d e : IteratorList) → e ≡ d → Rises d e
 same d e h = omega (arith, ap number h)
 
-kept_rises : (left : List NameBinding) (d e : Kept) → e ≡ kept_for left d → Rises d e
+kept_rises : (left : List NameBinding) (d e : IteratorList) → e ≡ kept_for left d → Rises d e
 kept_rises [] d e h = same d e h
 kept_rises (b ∷ bs) d e h = omega (arith, ap number h)
 
-list_rises : (home : Home) (r : NameAnswer) (m : ℕ) (draft : Draft) (d : Kept) (o : NameOutcome)
-    (e : Kept)
+list_rises : (home : Home) (r : NameAnswer) (m : ℕ) (draft : Draft) (d : IteratorList)
+    (o : NameOutcome)
+    (e : IteratorList)
     → CutsList home r m draft d o e → Rises d e
 list_rises home (Done (Bindings bs)) m draft d o e h = kept_rises (drop h.count bs) d e h.kept
 list_rises home (Done Nothing) m draft d o e h = same d e h.1
@@ -48,13 +50,14 @@ list_rises home (User x) m draft d o e h = same d e h.1
 list_rises home (System x) m draft d o e h = same d e h.1
 
 iterator_rises : (n : ℕ) (left : Option (List NameBinding)) (i : IteratorCall) (draft : Draft)
-    (d : Kept) (o : NameOutcome) (e : Kept) → IteratorDone n left i draft d o e → Rises d e
+    (d : IteratorList) (o : NameOutcome) (e : IteratorList) → IteratorDone n left i draft d o e
+    → Rises d e
 iterator_rises n None i draft d o e h = same d e h.1
 iterator_rises n (Some left) iter.NextOne draft d o e h = omega (arith, ap number h.1)
 iterator_rises n (Some left) (iter.NextN m) draft d o e h = omega (arith, ap number h.kept)
 iterator_rises n (Some left) iter.Destroy draft d o e h = omega (arith, ap number h.1)
 
-abbrev desk_of : Scene → Kept
+abbrev desk_of : Scene → IteratorList
 desk_of s = s.desk
 
 abbrev counted : Bool → ℕ
@@ -76,12 +79,12 @@ module _ (others : List NameChange → Type 0) where
   call_rises key call.NonExistent draft s o b t h = same s.desk t.desk (ap desk_of h.1)
 
   comes_rises : (j : Judged) (draft : Draft) (s : Scene) (o : NameOutcome) (b : Bool) (t : Scene)
-      → Comes others j draft s o b t → Rises s.desk t.desk
+      → OutcomeOfRequest others j draft s o b t → Rises s.desk t.desk
   comes_rises (Refused k minor) draft s o b t h = same s.desk t.desk (ap desk_of h.1)
   comes_rises (Call key c) draft s o b t h = call_rises key c draft s o b t h
 
   answers_rise : (j : Judged) (draft : Draft) (s : Scene) (o : NameOutcome) (b : Bool) (t : Scene)
-      → Answers others j draft s o b t → Rises s.desk t.desk
+      → AnswersRequest others j draft s o b t → Rises s.desk t.desk
   answers_rise j draft s o b t (inl comes) = comes_rises j draft s o b t comes
   answers_rise j draft s o b t (inr wants) = same s.desk t.desk wants.desk
 

@@ -15,12 +15,12 @@ use Rattle.td_ops.specs.declared.outcome.SystemKind.{SystemKind}
 use Rattle.td_ops.specs.declared.outcome.SystemKind.TheVariants as kind
 
 -- a system exception of a call that wasn't done: its completion is COMPLETED_NO
-abbrev pub refused : SystemKind → (minor : ℕ) → NameOutcome
-refused k minor = outcome.System k minor 1
+abbrev pub refusal_outcome : SystemKind → (minor : ℕ) → NameOutcome
+refusal_outcome k minor = outcome.System k minor 1
 
 -- one whose minor code is 0
 abbrev pub system : SystemKind → NameOutcome
-system k = refused k 0
+system k = refusal_outcome k 0
 
 abbrev pub no_memory : NameOutcome
 no_memory = system kind.NoMemory

@@ -4,7 +4,7 @@ use Rattle.td_cdr.specs.declared.order.Order.{Order}
 use Rattle.td_cdr.specs.Writing.{Draft}
 use Rattle.td_giop.specs.Heads.{Request}
 use Rattle.td_giop.specs.declared.header.TheConstants.{NEWEST_MINOR}
-use Rattle.td_giop.specs.Written.{locate_reply_written, reply_start, sealed}
+use Rattle.td_giop.specs.Written.{locate_reply_written, reply_start, seal_size}
 use Rattle.td_name_ops.specs.Outcomes.{outcome_piece, outcome_status}
 use Rattle.td_name_ops.specs.declared.outcome.NameOutcome.{NameOutcome}
 use Rattle.td_name_session.specs.declared.reply_to.ReplyTo.{ReplyTo}
@@ -26,7 +26,7 @@ IsWritable to = to.minor ≤ NEWEST_MINOR
 abbrev pub outcome_reply : ReplyTo → NameOutcome → List ℕ
 outcome_reply to outcome =
     let start = reply_start to.order to.minor to.id (outcome_status outcome) in
-    sealed to.order (start ++ outcome_piece outcome to.order (length start))
+    seal_size to.order (start ++ outcome_piece outcome to.order (length start))
 
 -- a Request that expects no reply gets no bytes
 abbrev pub reply_for : ReplyTo → NameOutcome → List ℕ
@@ -39,5 +39,5 @@ pub record BeginsReply (to : ReplyTo) (draft : Draft) : Type 0 where
 
 -- the LocateReply: OBJECT_HERE for the key of a live object, else UNKNOWN_OBJECT
 abbrev pub locate_reply : Order → (minor : ℕ) → ℕ → (live : Bool) → List ℕ
-locate_reply order minor id live = sealed order
+locate_reply order minor id live = seal_size order
     (locate_reply_written order minor id (if live then 1 else 0))

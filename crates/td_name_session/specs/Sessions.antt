@@ -2,7 +2,7 @@
 use Rattle.std.specs.Prelude.{◌≡◌, ℕ, List, []}
 use Rattle.td_naming.specs.declared.history.NameChange.{NameChange}
 use Rattle.td_stream.specs.Outside.{Outside}
-use Rattle.td_stream.specs.Streams.{Finishes}
+use Rattle.td_stream.specs.Streams.{StreamFinishes}
 use Rattle.td_stream.specs.declared.end.End.{End}
 use Rattle.td_name_session.specs.Scenes.{Scene}
 use Rattle.td_name_session.specs.Turns.{Run, Turn, exchanges_of, journal_of}
@@ -15,4 +15,4 @@ module _ (others : List NameChange → Type 0) where
     pub turns : List Turn
     pub run : Run others s turns u
     pub noted : journal ≡ journal_of turns
-    pub stream : Finishes (exchanges_of turns) end before after [] 0 0
+    pub stream : StreamFinishes (exchanges_of turns) end before after [] 0 0

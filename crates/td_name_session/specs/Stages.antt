@@ -6,13 +6,13 @@ use Rattle.td_naming.specs.Views.{View}
 use Rattle.td_naming.specs.declared.history.NameChange.{NameChange}
 use Rattle.td_name_session.specs.Keys.{key_of}
 use Rattle.td_name_session.specs.ReplyBytes.{locate_reply}
-use Rattle.td_name_session.specs.Scenes.{Kept, Scene, scene}
-use Rattle.td_name_session.specs.Turns.{FindsKey, Noted, Run, ServesHead, Turn, journal_of, seen_in}
+use Rattle.td_name_session.specs.Scenes.{IteratorList, Scene, scene}
+use Rattle.td_name_session.specs.Turns.{FindsKey, ServedRequest, Run, ServesHead, Turn, journal_of, seen_in}
 use Rattle.td_name_session.specs.declared.reply_to.ReplyTo.{ReplyTo}
 
 -- what a session keeps: the iterators of the connection, the points that were noted, and the reply to the last message
 pub record Room : Type 0 where
-  pub desk : Kept
+  pub desk : IteratorList
   pub journal : List ℕ
   pub replies : List ℕ
 
@@ -32,7 +32,8 @@ stage scene journal = record { scene = scene; journal = journal }
 abbrev pub stage_in : View → Room → Stage
 stage_in v room = stage (scene v room.desk) room.journal
 
-abbrev pub turn_of : (message : List ℕ) → Option Noted → Option ℕ → (reply : List ℕ) → Scene → Turn
+abbrev pub turn_of : (message : List ℕ) → Option ServedRequest → Option ℕ → (reply : List ℕ) → Scene
+    → Turn
 turn_of message noted point reply after = record {
   message = message;
   request = noted;
@@ -43,7 +44,7 @@ turn_of message noted point reply after = record {
 
 module _ (others : List NameChange → Type 0) where
   -- These turns lead from one stage to the other: the journal grew by what is noted of them.
-  pub record Leads (turns : List Turn) (s u : Stage) : Type 0 where
+  pub record TurnsLead (turns : List Turn) (s u : Stage) : Type 0 where
     pub run : Run others s.scene turns u.scene
     pub noted : u.journal ≡ s.journal ++ journal_of turns
 
@@ -59,15 +60,15 @@ module _ (others : List NameChange → Type 0) where
       (u : Stage) : Type 0 where
     pub live : Bool
     pub finds : FindsKey others s.scene.names s.scene.desk (key_of key) live u.scene.names
-    pub told : reply ≡ locate_reply order minor id live
+    pub content : reply ≡ locate_reply order minor id live
     pub desk : u.scene.desk ≡ s.scene.desk
     pub journal : u.journal ≡ s.journal ++ seen_in u.scene ∷ []
 
   -- the message is served with this reply
   pub record ServesMessage (s : Stage) (message reply : List ℕ) (u : Stage) : Type 0 where
-    pub noted : Option Noted
+    pub noted : Option ServedRequest
     pub point : Option ℕ
-    pub leads : Leads (turn_of message noted point reply u.scene ∷ []) s u
+    pub leads : TurnsLead (turn_of message noted point reply u.scene ∷ []) s u
 
 -- nothing was done
 abbrev pub Stays : Stage → Stage → Type 0

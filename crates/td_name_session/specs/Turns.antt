@@ -10,19 +10,19 @@ use Rattle.td_giop.specs.declared.message_type.TheConstants.{REQUEST, CANCEL_REQ
 use Rattle.td_name_ops.specs.declared.outcome.NameOutcome.{NameOutcome}
 use Rattle.td_naming.specs.Views.{View}
 use Rattle.td_naming.specs.declared.history.NameChange.{NameChange}
-use Rattle.td_stream.specs.Exchanges.{Exchange, exchange}
+use Rattle.td_stream.specs.Exchanges.{MessageExchange, exchange}
 use Rattle.td_stream.specs.Messages.{behind, kind_of, minor_of, order_of}
-use Rattle.td_name_session.specs.Judging.{Judges}
+use Rattle.td_name_session.specs.Judging.{JudgesRequest}
 use Rattle.td_name_session.specs.Keys.{key_of}
 use Rattle.td_name_session.specs.ReplyBytes.{BeginsReply, locate_reply, reply_for, reply_to}
-use Rattle.td_name_session.specs.Requests.{Answers}
-use Rattle.td_name_session.specs.Scenes.{Finds, Kept, Scene, scene}
+use Rattle.td_name_session.specs.Requests.{AnswersRequest}
+use Rattle.td_name_session.specs.Scenes.{FindsObject, IteratorList, Scene, scene}
 use Rattle.td_name_session.specs.declared.judging.Judged.{Judged}
 use Rattle.td_name_session.specs.declared.keys.NameKey.{NameKey}
 use Rattle.td_name_session.specs.declared.reply_to.ReplyTo.{ReplyTo}
 
 -- a Request as it was served: what it asks for, its outcome, and whether it was an accepted change
-pub record Noted : Type 0 where
+pub record ServedRequest : Type 0 where
   pub judged : Judged
   pub outcome : NameOutcome
   pub accepted : Bool
@@ -31,7 +31,7 @@ pub record Noted : Type 0 where
 -- with, and how everything stands then
 pub record Turn : Type 0 where
   pub message : List ℕ
-  pub request : Option Noted
+  pub request : Option ServedRequest
   pub point : Option ℕ
   pub reply : List ℕ
   pub after : Scene
@@ -45,12 +45,12 @@ abbrev pub seen_in : Scene → ℕ
 seen_in s = length s.names.history
 
 module _ (others : List NameChange → Type 0) where
-  abbrev pub FindsKey : View → Kept → Option NameKey → Bool → View → Type 0
+  abbrev pub FindsKey : View → IteratorList → Option NameKey → Bool → View → Type 0
   FindsKey v d None live u = (live ≡ false) × (u ≡ v)
-  FindsKey v d (Some key) live u = Finds others v d key live u
+  FindsKey v d (Some key) live u = FindsObject others v d key live u
 
   -- the live object of a key, if there is one
-  pub record FindsLive (v : View) (d : Kept) (key : Option NameKey) (found : Option NameKey)
+  pub record FindsLive (v : View) (d : IteratorList) (key : Option NameKey) (found : Option NameKey)
       (u : View) : Type 0 where
     pub live : Bool
     pub finds : FindsKey v d key live u
@@ -65,7 +65,7 @@ module _ (others : List NameChange → Type 0) where
     pub request : t.request ≡ None
     pub live : Bool
     pub finds : FindsKey s.names s.desk (key_of key) live t.after.names
-    pub told : t.reply ≡ locate_reply (order_of t.message) (minor_of t.message) id live
+    pub content : t.reply ≡ locate_reply (order_of t.message) (minor_of t.message) id live
     pub point : t.point ≡ Some (seen_in t.after)
     pub desk : t.after.desk ≡ s.desk
 
@@ -76,21 +76,21 @@ module _ (others : List NameChange → Type 0) where
     pub read : cancel_at (behind t.message) ≡ Ok id
     pub request : t.request ≡ None
     pub point : t.point ≡ None
-    pub told : t.reply ≡ []
+    pub content : t.reply ≡ []
     pub kept : t.after ≡ s
 
   -- A Request with this key, operation and body is judged at what is seen once its object was looked for, and served as
   -- it asks from there on, with this reply; this point is noted of it.
   pub record ServesHead (to : ReplyTo) (key operation : List ℕ) (body : At) (s : Scene)
       (reply : List ℕ) (point : ℕ) (u : Scene) : Type 0 where
-    pub noted : Noted
+    pub noted : ServedRequest
     pub looked : View
-    pub asks : Judges others s.names s.desk key operation body noted.judged looked
+    pub asks : JudgesRequest others s.names s.desk key operation body noted.judged looked
     pub draft : Draft
     pub begun : BeginsReply to draft
-    pub answers : Answers others noted.judged draft (scene looked s.desk)
+    pub answers : AnswersRequest others noted.judged draft (scene looked s.desk)
         noted.outcome noted.accepted u
-    pub told : reply ≡ reply_for to noted.outcome
+    pub content : reply ≡ reply_for to noted.outcome
     pub point_is : point ≡ point_of (seen_in u) noted.accepted
 
   pub record ServesRequest (s : Scene) (t : Turn) : Type 0 where
@@ -118,10 +118,10 @@ module _ (others : List NameChange → Type 0) where
 -- ---- what is told of a run
 
 -- a message that was served, and what it was answered with
-abbrev pub exchange_of : Turn → Exchange
+abbrev pub exchange_of : Turn → MessageExchange
 exchange_of turn = exchange turn.message turn.reply
 
-abbrev pub exchanges_of : List Turn → List Exchange
+abbrev pub exchanges_of : List Turn → List MessageExchange
 exchanges_of turns = map exchange_of turns
 
 abbrev pub point_in : Option ℕ → List ℕ

@@ -1,7 +1,8 @@
 //! What a call is answered with.
 
 ghost use Rattle.std.specs.Prelude.{◌≡◌, false};
-ghost use Rattle.td_name_session.specs.Outcomes.{no_memory, outcome_of, refusal_kind, refused, result_of, system};
+ghost use Rattle.td_name_session.specs.Outcomes.{no_memory, outcome_of, refusal_kind, refusal_outcome, result_of};
+ghost use Rattle.td_name_session.specs.Outcomes.{system};
 ghost use Rattle.td_name_session.specs.declared.answer.AnswerBody.TheVariants.{Outcome};
 
 use std::alloc::Global;
@@ -38,8 +39,8 @@ pub(crate) fn plain(outcome: NameOutcome) -> Answer
 }
 
 /// A system exception of a call that wasn't done.
-pub(crate) fn refused(kind: SystemKind, minor: u32) -> NameOutcome
-    ensures { result ≡ refused kind minor }
+pub(crate) fn refusal_outcome(kind: SystemKind, minor: u32) -> NameOutcome
+    ensures { result ≡ refusal_outcome kind minor }
 {
     NameOutcome::System {
         kind,
@@ -52,7 +53,7 @@ pub(crate) fn refused(kind: SystemKind, minor: u32) -> NameOutcome
 pub(crate) fn system(kind: SystemKind) -> NameOutcome
     ensures { result ≡ system kind }
 {
-    refused(kind, 0)
+    refusal_outcome(kind, 0)
 }
 
 /// NO_MEMORY. Nothing was changed.

@@ -3,7 +3,7 @@
 ghost use Rattle.std.specs.Prelude.{◌≡◌, ◌<◌, ◌^◌, ◌&&◌, length, not};
 ghost use Rattle.td_iter.specs.declared.limits.TheConstants.{REPLY_START};
 ghost use Rattle.td_name_session.specs.Keys.{context_in, iterator_in};
-ghost use Rattle.td_name_session.specs.Performing.{ActsTo, Performs, TellsTruth};
+ghost use Rattle.td_name_session.specs.Invoking.{ActsTo, Invokes, TellsTruth};
 ghost use Rattle.td_name_session.specs.Requests.{is_a};
 ghost use Rattle.td_name_session.specs.Scenes.{scene};
 ghost use Rattle.td_name_session.specs.declared.judging.Judged.TheVariants as asked;
@@ -21,8 +21,8 @@ use td_names::{NameAct, NameAnswer, context_id};
 use td_naming::Names;
 
 /// Performs a call. The writer holds what stands before the body of a Reply with a result.
-#[tactic(auto, using(crate::proofs::Classes::performs))]
-pub(crate) fn perform<N: Names>(
+#[tactic(auto, using(crate::proofs::Classes::invokes))]
+pub(crate) fn invoke<N: Names>(
     alloc: Global,
     names: &mut N,
     iterators: &mut Iterators,
@@ -33,7 +33,7 @@ pub(crate) fn perform<N: Names>(
     requires start { length w.old.bytes ≡ REPLY_START }
     requires numbers { iterators.old.1 < 2 ^ 63 }
     ensures same { N.same names.old names.new }
-    ensures performs { Performs N.others (asked.Call key call) w.old
+    ensures invokes { Invokes N.others (asked.Call key call) w.old
         (scene (N.view names.old) iterators.old) result w.new
         (scene (N.view names.new) iterators.new) }
 {

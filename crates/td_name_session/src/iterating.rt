@@ -3,7 +3,7 @@
 ghost use Rattle.std.specs.Prelude.{◌≡◌, drop, length, OnOk, OnErr};
 ghost use Rattle.td_iter.specs.declared.limits.TheConstants.{REPLY_START};
 ghost use Rattle.td_name_ops.specs.declared.call.IteratorCall.TheVariants as asked;
-ghost use Rattle.td_name_session.specs.Performing.{GivesTo, Puts, batch_call};
+ghost use Rattle.td_name_session.specs.Invoking.{GivesTo, PutsBindings, batch_call};
 
 use crate::answer::{Answer, AnswerBody, no_memory};
 use std::alloc::Global;
@@ -35,7 +35,7 @@ pub(crate) fn give(
 ///
 /// # Errors
 ///
-/// `Memory` for want of memory alone.
+/// `Memory` only when out of memory.
 fn put(
     alloc: Global,
     left: &mut Iter<NameBinding>,
@@ -43,7 +43,7 @@ fn put(
     how_many: Option<u32>,
 ) -> Result<(), Memory>
     requires { length w.old.bytes ≡ REPLY_START }
-    ensures ok { OnOk result (Puts (batch_call how_many) left.old w.old w.new left.new) }
+    ensures ok { OnOk result (PutsBindings (batch_call how_many) left.old w.old w.new left.new) }
     ensures err { OnErr result (left.new ≡ left.old) }
 {
     match how_many {
@@ -54,7 +54,7 @@ fn put(
 
 fn next_n(alloc: Global, left: &mut Iter<NameBinding>, w: &mut Writer, n: u32) -> Result<(), Memory>
     requires { length w.old.bytes ≡ REPLY_START }
-    ensures ok { OnOk result (Puts (asked.NextN n) left.old w.old w.new left.new) }
+    ensures ok { OnOk result (PutsBindings (asked.NextN n) left.old w.old w.new left.new) }
     ensures err { OnErr result (left.new ≡ left.old) }
 {
     let _more = left.next_n(alloc, n, w, Truth::SomeGiven)?;
@@ -63,7 +63,7 @@ fn next_n(alloc: Global, left: &mut Iter<NameBinding>, w: &mut Writer, n: u32) -
 
 /// The next binding, and that it is one; past the end that there is none, with an empty name of an object.
 fn next_one(alloc: Global, left: &mut Iter<NameBinding>, w: &mut Writer) -> Result<(), Memory>
-    ensures ok { OnOk result (Puts asked.NextOne left.old w.old w.new left.new) }
+    ensures ok { OnOk result (PutsBindings asked.NextOne left.old w.old w.new left.new) }
     ensures err { OnErr result (left.new ≡ left.old) }
 {
     put_next_one(alloc, w, left.left().first())?;
@@ -72,7 +72,7 @@ fn next_one(alloc: Global, left: &mut Iter<NameBinding>, w: &mut Writer) -> Resu
 }
 
 /// Passes the next binding, if there is one.
-#[tactic(auto, using(crate::proofs::Performing::drop_none))]
+#[tactic(auto, using(crate::proofs::Invoking::drop_none))]
 fn pass(left: &mut Iter<NameBinding>)
     ensures { left.new ≡ drop 1 left.old }
 {

@@ -2,11 +2,11 @@
 
 ghost use Rattle.std.specs.Prelude.{◌≡◌, ◌<◌, ◌^◌, [], length, IfOk, OnOk, OnErr};
 ghost use Rattle.td_cdr.specs.Writing.{Draft};
-ghost use Rattle.td_iter.specs.Desks.{added};
+ghost use Rattle.td_iter.specs.Desks.{with_added};
 ghost use Rattle.td_iter.specs.declared.limits.TheConstants.{REPLY_START};
 ghost use Rattle.td_name_ops.specs.declared.call.IteratorCall.TheVariants as asked;
 ghost use Rattle.td_name_session.specs.Keys.{desk_label};
-ghost use Rattle.td_name_session.specs.Performing.{Iterates, batch_call};
+ghost use Rattle.td_name_session.specs.Invoking.{Iterates, batch_call};
 ghost use Rattle.td_name_session.specs.Scenes.{is_kept};
 
 use crate::answer::{Answer, plain, system};
@@ -31,9 +31,9 @@ impl Model for Iterators {
     ghost use Rattle.std.specs.Prelude.{◌≡◌};
     ghost use Rattle.std.specs.Coded.{codes};
     ghost use Rattle.td_name_session.specs.Keys.{desk_label};
-    ghost use Rattle.td_name_session.specs.Scenes.{Kept};
+    ghost use Rattle.td_name_session.specs.Scenes.{IteratorList};
 
-    ghost Value = { Kept };
+    ghost Value = { IteratorList };
 
     ghost coded = { Prim.hlevel codes };
 
@@ -47,7 +47,7 @@ impl Iterators {
     ///
     /// # Errors
     ///
-    /// `Memory` for want of memory alone.
+    /// `Memory` only when out of memory.
     pub(crate) fn new(alloc: Global) -> Result<Iterators, Memory>
         ensures { IfOk result (λ i. i ≡ ([], 1)) }
     {
@@ -75,10 +75,10 @@ impl Iterators {
     ///
     /// # Errors
     ///
-    /// `Memory` for want of memory alone; nothing was changed then.
+    /// `Memory` only when out of memory; nothing was changed then.
     pub(crate) fn add(&mut self, alloc: Global, left: Iter<NameBinding>) -> Result<(), Memory>
         requires { self.old.1 < 2 ^ 63 }
-        ensures ok { OnOk result (self.new ≡ added desk_label left self.old) }
+        ensures ok { OnOk result (self.new ≡ with_added desk_label left self.old) }
         ensures err { OnErr result (self.new ≡ self.old) }
     {
         let label = self.label.copy(alloc)?;

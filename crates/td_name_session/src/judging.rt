@@ -1,13 +1,13 @@
 //! What a Request asks: the call of a live object, or why it is refused.
 
 ghost use Rattle.std.specs.Prelude.{◌≡◌, IfOk, OnErr};
-ghost use Rattle.td_name_session.specs.Judging.{Judges, judged_body, refused_for};
+ghost use Rattle.td_name_session.specs.Judging.{JudgesRequest, judged_body, refused_for};
 ghost use Rattle.td_name_session.specs.Keys.{key_of, kind_of};
-ghost use Rattle.td_name_session.specs.Scenes.{Finds};
+ghost use Rattle.td_name_session.specs.Scenes.{FindsObject};
 ghost use Rattle.td_name_session.specs.Turns.{FindsKey, FindsLive};
 ghost use Rattle.td_name_session.specs.declared.judging.Judged.{Judged as Spelled};
 ghost use Rattle.td_name_session.specs.declared.judging.Judged.TheVariants.{Refused};
-ghost use Rattle.td_ops.specs.declared.fault.OpsFault.TheVariants as told;
+ghost use Rattle.td_ops.specs.declared.fault.OpsFault.TheVariants as content;
 
 use crate::iterators::Iterators;
 use crate::keys::{NameKey, read_name_key};
@@ -40,7 +40,8 @@ pub(crate) fn kind_of(key: NameKey) -> NameKind
 /// Whether an object is live. Takes no memory.
 fn is_there<N: Names>(names: &mut N, iterators: &mut Iterators, key: NameKey) -> bool
     ensures same { N.same names.old names.new }
-    ensures finds { Finds N.others (N.view names.old) iterators.old key result (N.view names.new) }
+    ensures finds { FindsObject N.others (N.view names.old) iterators.old key result
+        (N.view names.new) }
     ensures iterators { iterators.new ≡ iterators.old }
 {
     match key {
@@ -83,7 +84,7 @@ pub(crate) fn is_live<N: Names>(names: &mut N, iterators: &mut Iterators, key: &
 ///
 /// # Errors
 ///
-/// `Memory` for want of memory alone, to read the call.
+/// `Memory` only when out of memory, to read the call.
 pub(crate) fn judge<N: Names>(
     alloc: Global,
     names: &mut N,
@@ -94,16 +95,16 @@ pub(crate) fn judge<N: Names>(
 ) -> Result<Judged, Memory>
     ensures same { N.same names.old names.new }
     ensures judged { IfOk result (λ j.
-        Judges N.others (N.view names.old) iterators.old key.now operation.now body.now j
+        JudgesRequest N.others (N.view names.old) iterators.old key.now operation.now body.now j
         (N.view names.new)) }
     ensures unread { OnErr result ((j : Spelled)
-        × Judges N.others (N.view names.old) iterators.old key.now operation.now body.now j
+        × JudgesRequest N.others (N.view names.old) iterators.old key.now operation.now body.now j
         (N.view names.new)) }
     ensures iterators { iterators.new ≡ iterators.old }
 {
     match find(names, iterators, key) {
         Some(key) => judge_body(alloc, key, operation, body),
-        None => Ok(refused(SystemKind::ObjectNotExist, 0)),
+        None => Ok(refusal_outcome(SystemKind::ObjectNotExist, 0)),
     }
 }
 
@@ -111,7 +112,7 @@ pub(crate) fn judge<N: Names>(
 ///
 /// # Errors
 ///
-/// `Memory` for want of memory alone.
+/// `Memory` only when out of memory.
 fn judge_body(
     alloc: Global,
     key: NameKey,
@@ -131,20 +132,20 @@ fn judge_body(
 ///
 /// # Errors
 ///
-/// `Memory` for want of memory.
+/// `Memory` when out of memory.
 fn refusal_of(fault: OpsFault) -> Result<Judged, Memory>
     ensures refused { IfOk result (λ j. j ≡ refused_for fault) }
-    ensures read { fault ≡ told.Memory → IfOk result (λ _. ⊥) }
+    ensures read { fault ≡ content.Memory → IfOk result (λ _. ⊥) }
 {
     match fault {
-        OpsFault::BadOperation => Ok(refused(SystemKind::BadOperation, 0)),
-        OpsFault::Marshal(place) => Ok(refused(SystemKind::Marshal, place)),
-        OpsFault::NoImplement => Ok(refused(SystemKind::NoImplement, 0)),
+        OpsFault::BadOperation => Ok(refusal_outcome(SystemKind::BadOperation, 0)),
+        OpsFault::Marshal(place) => Ok(refusal_outcome(SystemKind::Marshal, place)),
+        OpsFault::NoImplement => Ok(refusal_outcome(SystemKind::NoImplement, 0)),
         OpsFault::Memory => Err(Memory),
     }
 }
 
-fn refused(kind: SystemKind, minor: u32) -> Judged
+fn refusal_outcome(kind: SystemKind, minor: u32) -> Judged
     ensures { result ≡ Refused kind minor }
 {
     Judged::Refused { kind, minor }

@@ -8,9 +8,9 @@ ghost use Rattle.td_names.specs.References.{IsAddress};
 
 use std::alloc::Global;
 use td_cdr::{Memory, Octets};
-use td_codes::Ior;
 use td_ior::{make_ior, number_of};
 use td_names::{Address, context_number};
+use td_typecode::Ior;
 
 /// An object of a naming server, by its key.
 #[derive(Clone, Copy, Debug, PartialEq, Eq)]
@@ -57,7 +57,7 @@ const IIOP_MINOR: u8 = 0;
 ///
 /// # Errors
 ///
-/// `Memory` for want of memory alone.
+/// `Memory` only when out of memory.
 pub fn iterator_reference(alloc: Global, home: &Address, number: u64) -> Result<Ior, Memory>
     requires { IsAddress home.now }
     ensures made { IfOk result (λ reference. reference ≡ iterator_reference home.now number) }

@@ -33,8 +33,8 @@ pub fn names_are_resolved<N: Names>()
 {}
 
 /// Where the source is whole messages that a server can be sent, within a session's limits, and neither it nor the sink
-/// fails, the session serves all before the first that closes it, in order, and is closed, or it ends for want of
-/// memory.
+/// fails, the session serves all before the first that closes it, in order, and is closed, or it ends when out
+/// of memory.
 pub fn all_messages_are_served<N: Names>()
     ensures { (s u : Scene) (journal : List ℕ) (end : End) (before after : Outside)
         → Serves N.others s u journal end before after → Completes N.others s u end before after }

@@ -5,6 +5,7 @@
 mod answer;
 mod answering;
 mod calls;
+mod finishing;
 mod iterating;
 mod iterators;
 mod judging;
@@ -17,7 +18,6 @@ mod room;
 mod servant;
 mod serving;
 mod session;
-mod settling;
 mod writing;
 
 pub use judging::Judged;

@@ -1,11 +1,11 @@
 //! `list`: the first bindings, and an iterator over the others.
 
 ghost use Rattle.std.specs.Prelude.{◌≡◌, ◌<◌, ◌^◌, length, if◌then◌else◌, IfOk, OnOk, OnErr};
-ghost use Rattle.td_iter.specs.Desks.{added};
+ghost use Rattle.td_iter.specs.Desks.{with_added};
 ghost use Rattle.td_iter.specs.Heads.{IsSmallReference};
 ghost use Rattle.td_iter.specs.declared.limits.TheConstants.{REPLY_START};
 ghost use Rattle.td_name_session.specs.Keys.{desk_label};
-ghost use Rattle.td_name_session.specs.Performing.{CutsTo, Lists, ListsOrWants};
+ghost use Rattle.td_name_session.specs.Invoking.{CutsTo, Lists, ListsOrWants};
 ghost use Rattle.td_name_session.specs.Scenes.{Idles, scene};
 
 use crate::answer::{Answer, AnswerBody, no_memory, outcome_of, plain};
@@ -13,10 +13,10 @@ use crate::iterators::Iterators;
 use crate::keys::iterator_reference;
 use std::alloc::Global;
 use td_cdr::{List, Memory, Writer};
-use td_codes::Ior;
 use td_iter::Iter;
 use td_names::{NameAct, NameAnswer, NameBinding, NameReply};
 use td_naming::Names;
+use td_typecode::Ior;
 
 /// Lists a context. The writer holds what stands before the body of a Reply with a result.
 pub(crate) fn serve_list<N: Names>(
@@ -40,7 +40,7 @@ pub(crate) fn serve_list<N: Names>(
     }
 }
 
-/// The same, or want of memory. Nothing was done then.
+/// The same, or running out of memory. Nothing was done then.
 fn list<N: Names>(
     alloc: Global,
     names: &mut N,
@@ -67,8 +67,8 @@ fn list<N: Names>(
     }
 }
 
-/// Tells the first of these bindings, and keeps the others in an iterator. A store has fewer bindings than 2^32, so that
-/// there is no want of memory for their number.
+/// Tells the first of these bindings, and keeps the others in an iterator. A store has fewer bindings than 2^32, so
+/// that there is no lack of memory for their number.
 fn cut(
     alloc: Global,
     iterators: &mut Iterators,
@@ -100,7 +100,7 @@ fn cut(
 ///
 /// # Errors
 ///
-/// `Memory` for want of memory alone; nothing was changed then.
+/// `Memory` only when out of memory; nothing was changed then.
 fn keep(
     alloc: Global,
     iterators: &mut Iterators,
@@ -109,7 +109,8 @@ fn keep(
 ) -> Result<(), Memory>
     requires numbers { iterators.old.1 < 2 ^ 63 }
     ensures ok { OnOk result
-        (iterators.new ≡ (if more then added desk_label left iterators.old else iterators.old)) }
+        (iterators.new ≡ (if more then with_added desk_label left iterators.old
+        else iterators.old)) }
     ensures err { OnErr result (iterators.new ≡ iterators.old) }
 {
     if more {

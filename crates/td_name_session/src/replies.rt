@@ -40,7 +40,7 @@ impl Replies {
     ///
     /// # Errors
     ///
-    /// `Memory` for want of memory alone.
+    /// `Memory` only when out of memory.
     pub fn new(alloc: Global) -> Result<Replies, Memory>
         ensures { IfOk result (λ r. r ≡ []) }
     {

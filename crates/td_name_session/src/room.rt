@@ -40,7 +40,7 @@ impl NameRoom {
     ///
     /// # Errors
     ///
-    /// `Memory` for want of memory alone.
+    /// `Memory` only when out of memory.
     pub fn new(alloc: Global) -> Result<NameRoom, Memory>
         ensures { IfOk result (λ room. IsNew room) }
     {

@@ -30,7 +30,7 @@ impl<'n, 'r, N: Names> Servant for NameServant<'n, 'r, N> {
     ghost same = { λ a b. (a.names.ghost_name ≡ b.names.ghost_name)
         × (a.room.ghost_name ≡ b.room.ghost_name) × N.same a.names.now b.names.now };
 
-    ghost told = { λ s. s.room.now.replies };
+    ghost content = { λ s. s.room.now.replies };
 
     ghost budget = { λ s. s.room.now.desk.1 };
 

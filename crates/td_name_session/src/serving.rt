@@ -1,20 +1,20 @@
 //! One Request, from its head to its reply and its point.
 
 ghost use Rattle.std.specs.Prelude.{◌≡◌, ◌<◌, ◌^◌};
-ghost use Rattle.td_name_session.specs.Performing.{Handles, Performed};
+ghost use Rattle.td_name_session.specs.Invoking.{Handles, InvokesInto};
 ghost use Rattle.td_name_session.specs.ReplyBytes.{IsWritable};
 ghost use Rattle.td_name_session.specs.Scenes.{scene};
 ghost use Rattle.td_name_session.specs.Turns.{ServesHead, point_of};
 ghost use Rattle.td_name_session.specs.declared.judging.Judged.TheVariants as asked;
 
-use crate::answer::{Answer, no_memory, plain, refused};
-use crate::calls::perform;
+use crate::answer::{Answer, no_memory, plain, refusal_outcome};
+use crate::calls::invoke;
+use crate::finishing::finish_reply;
 use crate::iterators::Iterators;
 use crate::judging::{Judged, judge};
 use crate::keys::NameKey;
 use crate::replies::Replies;
 use crate::reply_to::ReplyTo;
-use crate::settling::settle;
 use std::alloc::Global;
 use td_cdr::Writer;
 use td_giop::{RequestHead, start_reply};
@@ -25,7 +25,7 @@ use td_naming::Names;
 const NO_EXCEPTION: u32 = 0;
 
 /// Serves a Request, leaves its reply, which has no bytes where none is expected, and answers its point: of an accepted
-/// change how many were accepted before it, and of any other how many are seen. Where memory is wanted the reply is
+/// change how many were accepted before it, and of any other how many are seen. When memory runs out the reply is
 /// NO_MEMORY, and no change was made then.
 pub(crate) fn serve_request<N: Names>(
     alloc: Global,
@@ -43,7 +43,7 @@ pub(crate) fn serve_request<N: Names>(
         (scene (N.view names.new) iterators.new) }
 {
     let answer = handle(alloc, names, iterators, &mut replies.long, to, head);
-    replies.is_long = settle(
+    replies.is_long = finish_reply(
         alloc,
         &mut replies.short,
         &mut replies.long,
@@ -105,16 +105,16 @@ fn serve_judged<N: Names>(
     requires version { IsWritable to }
     requires numbers { iterators.old.1 < 2 ^ 63 }
     ensures same { N.same names.old names.new }
-    ensures performed { Performed N.others to judged (scene (N.view names.old) iterators.old)
+    ensures performed { InvokesInto N.others to judged (scene (N.view names.old) iterators.old)
         result w.new (scene (N.view names.new) iterators.new) }
 {
     match judged {
         Judged::Call { key, call } => begin(alloc, names, iterators, w, to, key, call),
-        Judged::Refused { kind, minor } => plain(refused(kind, minor)),
+        Judged::Refused { kind, minor } => plain(refusal_outcome(kind, minor)),
     }
 }
 
-/// Performs a call, with a writer that is begun for the Reply with a result. Where memory is wanted for that, nothing
+/// Performs a call, with a writer that is begun for the Reply with a result. When memory runs out for that, nothing
 /// is called.
 fn begin<N: Names>(
     alloc: Global,
@@ -128,13 +128,13 @@ fn begin<N: Names>(
     requires version { IsWritable to }
     requires numbers { iterators.old.1 < 2 ^ 63 }
     ensures same { N.same names.old names.new }
-    ensures performed { Performed N.others to (asked.Call key call)
+    ensures performed { InvokesInto N.others to (asked.Call key call)
         (scene (N.view names.old) iterators.old) result w.new
         (scene (N.view names.new) iterators.new) }
 {
     w.restart(to.order);
     match start_reply(w, to.minor, to.id, NO_EXCEPTION) {
-        Ok(()) => perform(alloc, names, iterators, w, key, call),
+        Ok(()) => invoke(alloc, names, iterators, w, key, call),
         Err(_) => {
             drop(call);
             no_memory()

@@ -17,7 +17,7 @@ use td_stream::{End, serve_stream};
 /// Serves the messages of a source in order, and writes their replies to a sink, until the stream ends.
 ///
 /// Where the source is whole messages that a server can be sent, within a session's limits, and none of the
-/// outside fails, those before the first CloseConnection or MessageError are all served, or memory is wanted.
+/// outside fails, those before the first CloseConnection or MessageError are all served, or memory runs out.
 pub fn serve_names<N: Names, S: Source, K: Sink>(
     alloc: Global,
     names: &mut N,

@@ -4,7 +4,7 @@ ghost use Rattle.std.specs.Prelude.{◌≡◌, ◌≤◌, IsTrue, IsOk, OnOk};
 ghost use Rattle.td_giop.specs.declared.header.TheConstants.{NEWEST_MINOR};
 ghost use Rattle.td_name_ops.specs.Outcomes.{is_plain};
 ghost use Rattle.td_name_session.specs.ReplyBytes.{IsWritable, locate_reply, outcome_reply};
-ghost use Rattle.td_name_session.specs.Settling.{AlwaysFits};
+ghost use Rattle.td_name_session.specs.Finishing.{AlwaysFits};
 
 use crate::reply_to::ReplyTo;
 use std::alloc::Global;
@@ -16,7 +16,7 @@ use td_name_ops::{NameOutcome, name_status, write_name_outcome};
 ///
 /// # Errors
 ///
-/// `Memory` for want of memory alone; with 1,300 bytes of room there is none for an outcome that always fits.
+/// `Memory` only when out of memory; with 1,300 bytes of room there is none for an outcome that always fits.
 pub(crate) fn write_reply(
     alloc: Global,
     writer: &mut Writer,

@@ -24,15 +24,15 @@ const MESSAGE_ERROR: &[u8] = b"GIOP\x01\x00\x00\x06\x00\x00\x00\x00";
 /// Whether the first of two Requests is answered and the session is broken off at the second, which has this byte.
 fn breaks(alloc: Global, row: &(usize, u8, Cause)) -> Result<bool, Fail> {
     let (place, byte, cause) = row;
-    let mut told = session_of(alloc, FIRST)?;
-    let first = told.sent.len();
+    let mut content = session_of(alloc, FIRST)?;
+    let first = content.sent.len();
     let mut second = session_of(alloc, FIRST)?;
     if let Some(at) = second.sent.get_mut(*place) {
         *at = *byte;
     }
-    told.sent.extend_from_slice(second.sent.as_slice())?;
-    told.given.extend_from_slice(MESSAGE_ERROR)?;
-    Ok(ends(alloc, &told, 100_000, End::Broken(first as u64, *cause))?)
+    content.sent.extend_from_slice(second.sent.as_slice())?;
+    content.given.extend_from_slice(MESSAGE_ERROR)?;
+    Ok(ends(alloc, &content, 100_000, End::Broken(first as u64, *cause))?)
 }
 
 #[test]
@@ -46,12 +46,12 @@ fn a_session_is_broken_off(rt: HostRuntime) -> Result<(), Fail> {
 
 /// Whether a session that is cut off after so many bytes of the second Request ends there.
 fn is_cut(alloc: Global, size: usize) -> Result<bool, Fail> {
-    let mut told = session_of(alloc, FIRST)?;
-    let first = told.sent.len();
+    let mut content = session_of(alloc, FIRST)?;
+    let first = content.sent.len();
     let second = session_of(alloc, FIRST)?;
     let front = second.sent.get(..size).unwrap_or(second.sent.as_slice());
-    told.sent.extend_from_slice(front)?;
-    Ok(ends(alloc, &told, 100_000, End::Truncated(first as u64))?)
+    content.sent.extend_from_slice(front)?;
+    Ok(ends(alloc, &content, 100_000, End::Truncated(first as u64))?)
 }
 
 #[test]
@@ -65,12 +65,12 @@ fn a_session_is_cut_off(rt: HostRuntime) -> Result<(), Fail> {
 
 /// Whether a message of this type, which has a header alone, closes a session behind its first Request.
 fn closes(alloc: Global, kind: u8) -> Result<bool, Fail> {
-    let mut told = session_of(alloc, FIRST)?;
+    let mut content = session_of(alloc, FIRST)?;
     let second = session_of(alloc, FIRST)?;
-    told.sent.extend_from_slice(b"GIOP\x01\x00\x00")?;
-    told.sent.extend_from_slice(&[kind, 0, 0, 0, 0])?;
-    told.sent.extend_from_slice(second.sent.as_slice())?;
-    Ok(ends(alloc, &told, 100_000, End::Closed)?)
+    content.sent.extend_from_slice(b"GIOP\x01\x00\x00")?;
+    content.sent.extend_from_slice(&[kind, 0, 0, 0, 0])?;
+    content.sent.extend_from_slice(second.sent.as_slice())?;
+    Ok(ends(alloc, &content, 100_000, End::Closed)?)
 }
 
 #[test]

@@ -8,7 +8,7 @@ use std::test::Fail;
 #[test]
 fn a_new_iterator_drops_the_oldest(rt: HostRuntime) -> Result<(), Fail> {
     let alloc = rt.alloc();
-    let told = session_of(alloc, MANY)?;
-    assert!(rt; answers(alloc, &told, 100_000)?, "iterators");
+    let content = session_of(alloc, MANY)?;
+    assert!(rt; answers(alloc, &content, 100_000)?, "iterators");
     Ok(())
 }

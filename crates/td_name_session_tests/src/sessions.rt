@@ -1,6 +1,6 @@
 //! Sessions, whole.
 
-use crate::lines::{Told, answers, nothing_told, put_line};
+use crate::lines::{Reported, answers, nothing_content, put_line};
 use crate::vectors::{BODIES, CYCLE, FIRST, LISTS, OBJECTS, PRINTERS};
 use std::alloc::Global;
 use std::process::Abort;
@@ -8,16 +8,16 @@ use std::test::Fail;
 use td_cdr::Memory;
 
 /// Whether a session answers so, whole and in pieces.
-fn is_so(alloc: Global, told: &Told) -> Result<bool, Memory> {
-    Ok(answers(alloc, told, 100_000)? && answers(alloc, told, 7)?)
+fn is_so(alloc: Global, content: &Reported) -> Result<bool, Memory> {
+    Ok(answers(alloc, content, 100_000)? && answers(alloc, content, 7)?)
 }
 
 /// The first line with which a session doesn't answer as the lines up to it say.
 fn first_wrong<'l>(alloc: Global, lines: &'l str) -> Result<&'l str, Fail> {
-    let mut told = nothing_told(alloc);
+    let mut content = nothing_content(alloc);
     for line in lines.lines() {
-        put_line(alloc, &mut told, line)?;
-        if !is_so(alloc, &told)? {
+        put_line(alloc, &mut content, line)?;
+        if !is_so(alloc, &content)? {
             return Ok(line);
         }
     }

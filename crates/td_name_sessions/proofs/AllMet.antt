@@ -8,8 +8,8 @@ use Rattle.td_cell.specs.declared.pass.Pass.{Pass}
 use Rattle.td_cell.specs.declared.pass.View.{View as Knowledge}
 use Rattle.td_naming.specs.Histories.{Past}
 use Rattle.td_server.proofs.Flags.{AreOut, Keeps, Meet, Split, Splits, Stays, Waits, none-left, place_of}
-use Rattle.td_shared_names.specs.Sharing.{IsFresh, SplitsOff}
-use Rattle.td_workers.specs.Works.{Working}
+use Rattle.td_shared_names.specs.Sharing.{IsPutIn, SplitsOff}
+use Rattle.td_workers.specs.JobSources.{RunsJobs}
 
 -- ---- the flags of the opening pass
 
@@ -46,10 +46,10 @@ module _ {A R : Type 0} {g : Ghosts Past A R} where
 
   -- where each pass was met at first, each is met in the end
   pub all_are_met : (p q : Pass Past A R g) → all_met (knowledge p).met ≡ true
-      → Working Splits Stays Keeps place_of Meet true (flags_of p) 0 [] (flags_of q) → all_met (knowledge q).met ≡ true
+      → RunsJobs Splits Stays Keeps place_of Meet true (flags_of p) 0 [] (flags_of q) → all_met (knowledge q).met ≡ true
   all_are_met p q e w = all-met (knowledge q).met (none-left w (none-out (knowledge p).met e) 0)
 
   -- nothing was split off the opening pass of a new cell
-  pub fresh_is_met : (n : Past) (c : Cell Past A R) (p : Pass Past A R g) → IsFresh n c p
+  pub fresh_is_met : (n : Past) (c : Cell Past A R) (p : Pass Past A R g) → IsPutIn n c p
       → all_met (knowledge p).met ≡ true
   fresh_is_met n c p f = ap (λ (v : Knowledge Past). all_met v.met) f.seen

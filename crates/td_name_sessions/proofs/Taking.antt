@@ -1,16 +1,16 @@
 -- Passes that are split off and taken in, as what is seen through them.
 use Rattle.std.proofs.Common.{◌≡◌, ◌∙◌, ℕ, List, [], Some, IsSome, sym, ap, subst}
 use Rattle.td_cell.specs.Lists.{Rises, itself}
-use Rattle.td_cell.specs.Passes.{knowledge, opened}
+use Rattle.td_cell.specs.Passes.{knowledge, opened_book}
 use Rattle.td_cell.specs.declared.book.Book.{Ghosts}
 use Rattle.td_cell.specs.declared.cell.Cell.{Cell}
 use Rattle.td_cell.specs.declared.pass.Pass.{Pass}
 use Rattle.td_cell.specs.declared.pass.View.{View as Knowledge}
 use Rattle.td_naming.specs.Histories.{Past}
 use Rattle.td_shared_names.proofs.Seen.{before_one, one_is, some_one}
-use Rattle.td_shared_names.specs.Acting.{GoesOn}
+use Rattle.td_shared_names.specs.Acting.{ExtendsPast}
 use Rattle.td_shared_names.specs.Seeing.{past_of, seen_by, view_by, view_of}
-use Rattle.td_shared_names.specs.Sharing.{IsClosed, IsFresh, Meets, SplitsOff}
+use Rattle.td_shared_names.specs.Sharing.{IsTakenOut, IsPutIn, MeetsPass, SplitsOff}
 use Rattle.td_name_sessions.specs.Sessions.{Closes, Joins, bare}
 
 -- what is seen is the contexts with what is one's own
@@ -34,7 +34,7 @@ module _ {A R : Type 0} {g : Ghosts Past A R} where
       (ap (λ (k : Knowledge Past). k.own) s.opening)
 
   -- what a session has seen and done is taken in
-  pub join_seen : (p t q : Pass Past A R g) → Meets p t q → Joins (seen_by p) (seen_by t) (seen_by q)
+  pub join_seen : (p t q : Pass Past A R g) → MeetsPass p t q → Joins (seen_by p) (seen_by t) (seen_by q)
   join_seen p t q m =
       let book : Past = m.learned.book in
       let same : past_of q ≡ book =
@@ -42,10 +42,10 @@ module _ {A R : Type 0} {g : Ghosts Past A R} where
       let own = ap (λ (k : Knowledge Past). k.own) m.learned.is in
       record {
         before =
-            subst (GoesOn (past_of p)) (sym same)
+            subst (ExtendsPast (past_of p)) (sym same)
             (before_one (knowledge p).seen p.knows book m.learned.before.0);
         seen =
-            subst (GoesOn (past_of t)) (sym same)
+            subst (ExtendsPast (past_of t)) (sym same)
             (before_one (knowledge t).seen t.knows book m.learned.before.1);
         own = own;
         apart = subst (Rises itself) (sym own) m.learned.places;
@@ -53,11 +53,11 @@ module _ {A R : Type 0} {g : Ghosts Past A R} where
 
   -- ---- the opening and the end
 
-  pub fresh_view : (n : Past) (c : Cell Past A R) (p : Pass Past A R g) → IsFresh n c p → seen_by p ≡ view_of n []
+  pub fresh_view : (n : Past) (c : Cell Past A R) (p : Pass Past A R g) → IsPutIn n c p → seen_by p ≡ view_of n []
   fresh_view n c p f =
       view_is (knowledge p) p.knows n [] (ap (λ (v : Knowledge Past). v.seen) f.seen)
       (ap (λ (v : Knowledge Past). v.own) f.seen)
 
-  pub close_seen : (c : Cell Past A R) (p : Pass Past A R g) (n : Past) → IsClosed c p n
-      → Closes (opened c) (seen_by p) n
+  pub close_seen : (c : Cell Past A R) (p : Pass Past A R g) (n : Past) → IsTakenOut c p n
+      → Closes (opened_book c) (seen_by p) n
   close_seen c p n m = record { since = m.since; seen = m.seen; places = m.places }

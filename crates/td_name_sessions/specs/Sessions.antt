@@ -8,10 +8,11 @@ use Rattle.td_name_session.specs.Sessions.{Serves}
 use Rattle.td_naming.specs.Histories.{Past, past}
 use Rattle.td_naming.specs.Views.{View}
 use Rattle.td_naming.specs.declared.history.NameChange.{NameChange}
-use Rattle.td_server.specs.Kinds.{Kind}
-use Rattle.td_server.specs.Sessions.{Begun as BegunOf, Ended as EndedOf, HandsSome as HandsSomeOf}
-use Rattle.td_server.specs.Sessions.{Seeded as SeededWords, Serving as ServingOf, Stand as StandOf, Told as ToldOf}
-use Rattle.td_shared_names.specs.Acting.{GoesOn, size_of}
+use Rattle.td_server.specs.Kinds.{ServerKind}
+use Rattle.td_server.specs.Sessions.{SessionStart as BegunOf, SessionResult as EndedOf, HandsSome as HandsSomeOf}
+use Rattle.td_server.specs.Sessions.{WordsBySeeding as SeededWords, ServesSession as ServingOf, ServerState as StandOf}
+use Rattle.td_server.specs.Sessions.{HandedSessions as ToldOf}
+use Rattle.td_shared_names.specs.Acting.{ExtendsPast, size_of}
 use Rattle.td_shared_names.specs.Seeing.{any_changes}
 use Rattle.td_stream.specs.Outside.{Outside}
 use Rattle.td_stream.specs.declared.end.End.{End}
@@ -28,21 +29,21 @@ past_in v = past v.home v.history
 
 -- the second may be what the first has become
 abbrev pub Continues : View → View → Type 0
-Continues v u = GoesOn (past_in v) (past_in u)
+Continues v u = ExtendsPast (past_in v) (past_in u)
 
--- What was seen of the contexts before a session was taken in and what the session has seen of them lead to what is seen
--- then. What is own is own of both, and no place is in both.
+-- What was seen of the contexts before a session was taken in and what the session has seen of them lead to what is
+-- seen then. What is own is own of both, and no place is in both.
 pub record Joins (v session u : View) : Type 0 where
   pub before : Continues v u
   pub seen : Continues session u
   pub own : u.own ≡ merge itself v.own session.own
   pub apart : Rises itself u.own
 
--- The contexts that were opened have become these in the end, which go on from what was seen last. Each change since the
--- opening is one's own.
+-- The contexts that were opened have become these in the end, which go on from what was seen last. Each change since
+-- the opening is one's own.
 pub record Closes (opened : Past) (v : View) (closed : Past) : Type 0 where
-  pub since : GoesOn opened closed
-  pub seen : GoesOn (past_in v) closed
+  pub since : ExtendsPast opened closed
+  pub seen : ExtendsPast (past_in v) closed
   pub places : (k : ℕ) → size_of opened ≤ k → k < size_of closed → In k v.own
 
 -- ---- one session
@@ -57,20 +58,20 @@ pub record ServesOver (others : List NameChange → Type 0) (first : View) (jour
   pub complete : Completes others (scene first ([], 1)) scene_after end before after
 
 -- what is kept of a session: how it ended, and the points that were noted of its Requests
-pub record Kept : Type 0 where
+pub record SessionRecord : Type 0 where
   pub end : End
   pub journal : List ℕ
 
 -- ---- the kind of server
 
--- Its sessions share naming contexts, to which others may make any changes meanwhile. In the end the contexts are handed
--- on. No session draws random words.
-abbrev pub naming : Kind
+-- Its sessions share naming contexts, to which others may make any changes meanwhile. In the end the contexts are
+-- handed on. No session draws random words.
+abbrev pub naming : ServerKind
 naming = record {
   World = View;
   Given = Unit {0};
   Outside = Outside;
-  Kept = Kept;
+  Kept = SessionRecord;
   Closed = Past;
   Thing = Unit {0};
   bare = bare;
@@ -84,28 +85,29 @@ naming = record {
 -- ---- its sessions
 
 -- the random words that come after each seeding
-abbrev pub Seeded : Type 0
-Seeded = SeededWords
+abbrev pub WordsBySeeding : Type 0
+WordsBySeeding = SeededWords
 
 -- the sessions that were handed on, in order, and the contexts, once they were
-abbrev pub Told : Type 0 → Type 0
-Told X = ToldOf naming X
+abbrev pub HandedSessions : Type 0 → Type 0
+HandedSessions X = ToldOf naming X
 
 -- these sessions were handed on, and no contexts
-abbrev pub HandsSome : {X : Type 0} → (told after : Option (Told X)) → Type 0
+abbrev pub HandsSome : {X : Type 0} → (content after : Option (HandedSessions X)) → Type 0
 HandsSome {X} = HandsSomeOf {k = naming} {X = X}
 
 -- a session that begins, and one that has ended
-abbrev pub Begun : Type 0 → Type 0
-Begun X = BegunOf naming X
+abbrev pub SessionStart : Type 0 → Type 0
+SessionStart X = BegunOf naming X
 
-abbrev pub Ended : Type 0 → Type 0
-Ended X = EndedOf naming X
+abbrev pub SessionResult : Type 0 → Type 0
+SessionResult X = EndedOf naming X
 
 -- the session was served, whatever others did to the contexts meanwhile
-abbrev pub Serving : {X : Type 0} → (X → Outside) → (X → Seeded) → Begun X → Ended X → Type 0
-Serving {X} = ServingOf {k = naming} {X = X}
+abbrev pub ServesSession : {X : Type 0} → (X → Outside) → (X → WordsBySeeding) → SessionStart X
+    → SessionResult X → Type 0
+ServesSession {X} = ServingOf {k = naming} {X = X}
 
 -- between two visitors
-abbrev pub Stand : Type 0 → Type 0
-Stand X = StandOf naming X
+abbrev pub ServerState : Type 0 → Type 0
+ServerState X = StandOf naming X

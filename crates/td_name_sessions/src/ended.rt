@@ -2,7 +2,7 @@
 
 ghost use Rattle.std.specs.Prelude.{◌≡◌, [], None, Some, Option, IfOk, OnOk, OnErr, is_some, map, option_map};
 ghost use Rattle.td_server.specs.Sessions.{with_closed, with_session};
-ghost use Rattle.td_name_sessions.specs.Sessions.{Told, naming};
+ghost use Rattle.td_name_sessions.specs.Sessions.{HandedSessions, naming};
 
 use std::alloc::Global;
 use td_accept::Limited;
@@ -13,7 +13,7 @@ use td_naming::Naming;
 /// Where sessions go that have ended, and in the end the naming contexts.
 pub trait Ended<V> {
     /// The sessions that were handed on, in order, and the contexts once they were, where it tells.
-    ghost told: { Self → Option (Told V) };
+    ghost content: { Self → Option (HandedSessions V) };
 
     /// It is the same still: of a borrow, that no other was put in its place.
     ghost same: { Self → Self → Type 0 };
@@ -23,7 +23,7 @@ pub trait Ended<V> {
     ///
     /// # Errors
     ///
-    /// `Memory` for want of memory alone; the session is then dropped.
+    /// `Memory` only when out of memory; the session is then dropped.
     fn names(
         &mut self,
         number: u64,
@@ -34,21 +34,21 @@ pub trait Ended<V> {
     ) -> Result<(), Memory>
         ensures same { same self.old self.new }
         ensures ok { OnOk result
-            (told self.new ≡ option_map (with_session {k = naming}
+            (content self.new ≡ option_map (with_session {k = naming}
             (record {
               number = number;
               visitor = visitor;
               limited = is_some limited;
               kept = record { end = end; journal = journal };
             }))
-            (told self.old)) }
-        ensures err { OnErr result (told self.new ≡ told self.old) };
+            (content self.old)) }
+        ensures err { OnErr result (content self.new ≡ content self.old) };
 
     /// All sessions have ended.
     fn naming(&mut self, contexts: Naming)
         ensures same { same self.old self.new }
-        ensures told { told self.new ≡ option_map (with_closed {k = naming} contexts)
-            (told self.old) };
+        ensures content { content self.new ≡ option_map (with_closed {k = naming} contexts)
+            (content self.old) };
 
     ghost same_on: { (a b c : Self) → same a b → same b c → same a c };
 }
@@ -65,7 +65,7 @@ impl<V> KeepEnded<V> {
     ///
     /// # Errors
     ///
-    /// `Memory` for want of memory alone.
+    /// `Memory` only when out of memory.
     pub fn new(alloc: Global) -> Result<KeepEnded<V>, Memory>
         ensures { IfOk result (λ k. (k.sessions ≡ []) × (k.closed ≡ None)) }
     {
@@ -92,7 +92,7 @@ impl<V> KeepEnded<V> {
 }
 
 impl<V: Drop> Ended<V> for KeepEnded<V> {
-    ghost told = { λ k. Some (record {
+    ghost content = { λ k. Some (record {
       sessions = map (λ h. record {
         number = h.0;
         visitor = h.1;
@@ -134,7 +134,7 @@ impl DropEnded {
 }
 
 impl<V: Drop> Ended<V> for DropEnded {
-    ghost told = { λ _. None };
+    ghost content = { λ _. None };
 
     ghost same = { λ _ _. Unit {0} };
 

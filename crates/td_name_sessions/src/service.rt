@@ -3,7 +3,7 @@
 ghost use Rattle.std.specs.Prelude.{◌≡◌};
 ghost use Rattle.td_name_sessions.specs.Sessions.{naming};
 ghost use Rattle.td_shared_names.specs.Seeing.{seen_by};
-ghost use Rattle.td_shared_names.specs.Sharing.{IsOpeningOf, IsOut, Meets, SplitsOff};
+ghost use Rattle.td_shared_names.specs.Sharing.{IsOpeningOf, IsOut, MeetsPass, SplitsOff};
 ghost use Rattle.td_stream.specs.Outside.{outside};
 
 use crate::ended::Ended;
@@ -63,7 +63,7 @@ where
 
     ghost seen = { λ a. seen_by a.pass };
 
-    ghost told = { λ a. N.told a.ended.now };
+    ghost content = { λ a. N.content a.ended.now };
 
     ghost goes = { λ a b. (a.ended.ghost_name ≡ b.ended.ghost_name) × (b.names ≡ a.names) };
 
@@ -73,7 +73,7 @@ where
 
     ghost begins = { λ a p b. SplitsOff a.pass p.pass.pass b.pass };
 
-    ghost ends = { λ a q b. Meets a.pass q.pass b.pass };
+    ghost ends = { λ a q b. MeetsPass a.pass q.pass b.pass };
 
     ghost use Rattle.std.proofs.Common.{refl, ◌∙◌};
     ghost use Rattle.td_name_sessions.specs.Worlds.{naming_laws};

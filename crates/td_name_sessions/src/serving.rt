@@ -1,10 +1,10 @@
 //! The sessions of all visitors over naming contexts.
 
 ghost use Rattle.std.specs.Prelude.{◌≡◌, ◌≤◌, [], length, true, IfErr, IfOk, OnErr, OnOk};
-ghost use Rattle.td_cell.specs.Passes.{knowledge, opened};
+ghost use Rattle.td_cell.specs.Passes.{knowledge, opened_book};
 ghost use Rattle.td_cell.specs.Rules.{all_met};
 ghost use Rattle.td_name_sessions.specs.Sessions.{HandsSome};
-ghost use Rattle.td_name_sessions.specs.Whole.{HandsOn, ServesAll, ServesFrom, Whole};
+ghost use Rattle.td_name_sessions.specs.Whole.{HandsOn, ServesSessions, ServesFrom, Whole};
 ghost use Rattle.td_server.specs.Sessions.{StopsSo};
 ghost use Rattle.td_shared_names.specs.Seeing.{seen_by, view_of};
 ghost use Rattle.td_shared_names.specs.Sharing.{IsOpeningOf};
@@ -31,10 +31,10 @@ use td_workers::Stop;
 /// # Errors
 ///
 /// - `Failed` only where the acceptor's count of faults rose.
-/// - `Memory` for want of memory.
+/// - `Memory` when out of memory.
 ///
 /// Some sessions may have been handed on before, but no contexts.
-#[tactic(auto, using(crate::specs::HallLaws::hands_none))]
+#[tactic(auto, using(crate::specs::JobSourceLaws::hands_none))]
 pub fn serve_naming<
     A: Accept,
     G: Gate,
@@ -48,11 +48,11 @@ pub fn serve_naming<
     gate: &G,
     ended: &mut N,
 ) -> Result<(), Stop>
-    ensures serves { OnOk result (ServesAll
+    ensures serves { OnOk result (ServesSessions
         (λ v. outside (A.S.left v.source) (A.S.faults v.source) (A.K.written v.sink)
-        (A.K.faults v.sink)) (λ v. A.W.word_after v.words) contexts (A.told accept.old)
-        (N.told ended.old) (A.told accept.new) (N.told ended.new)) }
-    ensures handed { OnErr result (HandsSome (N.told ended.old) (N.told ended.new)) }
+        (A.K.faults v.sink)) (λ v. A.W.word_after v.words) contexts (A.content accept.old)
+        (N.content ended.old) (A.content accept.new) (N.content ended.new)) }
+    ensures handed { OnErr result (HandsSome (N.content ended.old) (N.content ended.new)) }
     ensures later { A.faults accept.old ≤ A.faults accept.new }
     ensures stops { IfErr result (λ why. StopsSo why (A.faults accept.old) (A.faults accept.new)) }
 {
@@ -67,7 +67,7 @@ pub fn serve_naming<
 }
 
 /// The same where the acceptor was bound.
-#[tactic(auto, using(crate::specs::HallLaws::hands_none))]
+#[tactic(auto, using(crate::specs::JobSourceLaws::hands_none))]
 fn serve_bound<
     A: Accept,
     G: Gate,
@@ -85,8 +85,8 @@ fn serve_bound<
     ensures serves { OnOk result (ServesFrom
         (λ v. outside (A.S.left v.source) (A.S.faults v.source) (A.K.written v.sink)
         (A.K.faults v.sink)) (λ v. A.W.word_after v.words) contexts (view_of contexts [])
-        (A.told accept.old) (N.told ended.old) (A.told accept.new) (N.told ended.new)) }
-    ensures handed { OnErr result (HandsSome (N.told ended.old) (N.told ended.new)) }
+        (A.content accept.old) (N.content ended.old) (A.content accept.new) (N.content ended.new)) }
+    ensures handed { OnErr result (HandsSome (N.content ended.old) (N.content ended.new)) }
     ensures later { A.faults accept.old ≤ A.faults accept.new }
     ensures stops { IfErr result (λ why. StopsSo why (A.faults accept.old) (A.faults accept.new)) }
 {
@@ -106,7 +106,7 @@ fn open_names(
     ensures seed { IfOk result (λ r. length r.0 ≡ 32) }
     ensures opening { IfOk result (λ r. IsOpeningOf r.1.cell r.2) }
     ensures met { IfOk result (λ r. all_met (knowledge r.2).met ≡ true) }
-    ensures opened { IfOk result (λ r. opened r.1.cell ≡ contexts) }
+    ensures opened { IfOk result (λ r. opened_book r.1.cell ≡ contexts) }
     ensures seen { IfOk result (λ r. seen_by r.2 ≡ view_of contexts []) }
 {
     match zeros(alloc) {
@@ -128,7 +128,7 @@ fn open_with(
     ensures seed { IfOk result (λ r. length r.0 ≡ 32) }
     ensures opening { IfOk result (λ r. IsOpeningOf r.1.cell r.2) }
     ensures met { IfOk result (λ r. all_met (knowledge r.2).met ≡ true) }
-    ensures opened { IfOk result (λ r. opened r.1.cell ≡ contexts) }
+    ensures opened { IfOk result (λ r. opened_book r.1.cell ≡ contexts) }
     ensures seen { IfOk result (λ r. seen_by r.2 ≡ view_of contexts []) }
 {
     match SharedNames::open(alloc, contexts) {
@@ -169,9 +169,9 @@ fn serve_opened<
     requires seed { length seed.now ≡ 32 }
     ensures serves { OnOk result (ServesFrom
         (λ v. outside (A.S.left v.source) (A.S.faults v.source) (A.K.written v.sink)
-        (A.K.faults v.sink)) (λ v. A.W.word_after v.words) (opened names.cell) (seen_by pass)
-        (A.told accept.old) (N.told ended.old) (A.told accept.new) (N.told ended.new)) }
-    ensures handed { OnErr result (HandsSome (N.told ended.old) (N.told ended.new)) }
+        (A.K.faults v.sink)) (λ v. A.W.word_after v.words) (opened_book names.cell) (seen_by pass)
+        (A.content accept.old) (N.content ended.old) (A.content accept.new) (N.content ended.new)) }
+    ensures handed { OnErr result (HandsSome (N.content ended.old) (N.content ended.new)) }
     ensures later { A.faults accept.old ≤ A.faults accept.new }
     ensures stops { IfErr result (λ why. StopsSo why (A.faults accept.old) (A.faults accept.new)) }
 {
@@ -225,18 +225,18 @@ fn serve_visitors<
         (A.K.faults v.sink)) (λ v. A.W.word_after v.words) (record {
           given = tt;
           seed = seed.now;
-          door = A.told accept.old;
-          told = N.told service.entry.ended.now;
+          door = A.content accept.old;
+          content = N.content service.entry.ended.now;
           world = seen_by service.entry.pass;
         })
         (record {
           given = tt;
           seed = seed.now;
-          door = A.told accept.new;
-          told = N.told result.1.ended.now;
+          door = A.content accept.new;
+          content = N.content result.1.ended.now;
           world = seen_by result.1.pass;
         })) }
-    ensures handed { HandsSome (N.told service.entry.ended.now) (N.told result.1.ended.now) }
+    ensures handed { HandsSome (N.content service.entry.ended.now) (N.content result.1.ended.now) }
     ensures later { A.faults accept.old ≤ A.faults accept.new }
     ensures stops { IfErr result.0 (λ why. StopsSo why (A.faults accept.old)
         (A.faults accept.new)) }
@@ -248,7 +248,8 @@ fn serve_visitors<
 fn hand_on<V, N: Ended<V>>(names: SharedNames, pass: Pass<NameBook>, ended: &mut N)
     requires opening { IsOpeningOf names.cell pass }
     requires met { all_met (knowledge pass).met ≡ true }
-    ensures { HandsOn (opened names.cell) (seen_by pass) (N.told ended.old) (N.told ended.new) }
+    ensures { HandsOn (opened_book names.cell) (seen_by pass) (N.content ended.old)
+        (N.content ended.new) }
 {
     match names.close(pass) {
         Ok(contexts) => ended.naming(contexts),

@@ -10,7 +10,8 @@ use Rattle.td_cell.specs.Lists.{Rises, itself}
 use Rattle.td_name_session.specs.Laws.{places_of}
 use Rattle.td_name_session.specs.Scenes.{scene}
 use Rattle.td_name_session.specs.Turns.{Turn}
-use Rattle.td_name_sessions.specs.Sessions.{Begun, Closes, Continues, Ended, Seeded, Serving, Stand, Told, naming}
+use Rattle.td_name_sessions.specs.Sessions.{SessionStart, Closes, Continues, SessionResult, WordsBySeeding}
+use Rattle.td_name_sessions.specs.Sessions.{ServesSession, ServerState, HandedSessions, naming}
 use Rattle.td_name_sessions.specs.Whole.{ServesFrom, Visit}
 use Rattle.td_name_sessions_laws.proofs.OneSession.{all-stand, makes-all, own-is, places-rise, since}
 use Rattle.td_name_sessions_laws.proofs.Times.{in-either, times-both, times-none, times-one}
@@ -19,7 +20,7 @@ use Rattle.td_name_sessions_laws.specs.OneHistory.{all_places, times}
 use Rattle.td_naming.specs.Histories.{Past}
 use Rattle.td_naming.specs.Views.{View}
 use Rattle.td_naming.specs.declared.history.NameChange.{NameChange}
-use Rattle.td_server.specs.Whole.{AreApart, BeginsAfter, Every, HasChanged}
+use Rattle.td_server.specs.Whole.{AreApart, BeginsAfter, Every, HasChangedOnce}
 use Rattle.td_shared_names.specs.Acting.{size_of}
 use Rattle.td_shared_names.specs.Seeing.{any_changes, view_of}
 use Rattle.td_stream.specs.Outside.{Outside}
@@ -43,23 +44,23 @@ record IsRight (opened closed : Past) (own : List ℕ) (turns : List Turn) : Typ
   late : (place : ℕ) → In place (places_of turns) → size_of opened ≤ place
   makes : MakesAll closed.history turns
 
-module _ {X : Type 0} (outside_of : X → Outside) (seeded : X → Seeded) (opened closed : Past) where
+module _ {X : Type 0} (outside_of : X → Outside) (seeded : X → WordsBySeeding) (opened closed : Past) where
   abbrev AreRight : (visits : List (Visit X)) → AreServed outside_of seeded visits → Type 0
   AreRight [] each = Unit {0}
   AreRight (v ∷ vs) each = IsRight opened closed v.ended.last.own each.0.serves.turns × AreRight vs each.1
 
   places-changed : (place : ℕ) (vs : List (Visit X)) (each : AreServed outside_of seeded vs) → AreRight vs each
-      → In place (all_places outside_of seeded vs each) → HasChanged {k = naming} {X = X} tt place vs
+      → In place (all_places outside_of seeded vs each) → HasChangedOnce {k = naming} {X = X} tt place vs
   places-changed place [] each r h = absurd h
   places-changed place (v ∷ vs) each r h =
       elim (in-either place (places_of each.0.serves.turns) (all_places outside_of seeded vs each.1) h)
-      as (λ _. HasChanged {k = naming} {X = X} tt place (v ∷ vs)) [
+      as (λ _. HasChangedOnce {k = naming} {X = X} tt place (v ∷ vs)) [
         | inl p ↦ inl (subst (λ (l : List ℕ). In place l) (sym r.0.own_is) p)
         | inr p ↦ inr (places-changed place vs each.1 r.1 p)
       ]
 
   changed-once : (place : ℕ) (vs : List (Visit X)) (each : AreServed outside_of seeded vs) → AreRight vs each
-      → AreApart {k = naming} {X = X} vs → HasChanged {k = naming} {X = X} tt place vs
+      → AreApart {k = naming} {X = X} vs → HasChangedOnce {k = naming} {X = X} tt place vs
       → times place (all_places outside_of seeded vs each) ≡ 1
   changed-once place [] each r a h = absurd h
   changed-once place (v ∷ vs) each r a (inl h) =
@@ -97,9 +98,9 @@ module _ {X : Type 0} (outside_of : X → Outside) (seeded : X → Seeded) (open
 
 -- ---- one session
 
-module _ {X : Type 0} (outside_of : X → Outside) (seeded : X → Seeded) (start : Stand X) (opened closed : Past)
+module _ {X : Type 0} (outside_of : X → Outside) (seeded : X → WordsBySeeding) (start : ServerState X) (opened closed : Past)
     (starts : start.world ≡ view_of opened []) (world : View) (closes : Closes opened world closed) where
-  one-right : (b : Begun X) (e : Ended X) (p : Serving outside_of seeded b e) → BeginsAfter {k = naming} {X = X} start b
+  one-right : (b : SessionStart X) (e : SessionResult X) (p : ServesSession outside_of seeded b e) → BeginsAfter {k = naming} {X = X} start b
       → Continues e.last world → IsRight opened closed e.last.own p.serves.turns
   one-right b e p begins seen =
       let first = scene b.first ([], 1) in
@@ -137,17 +138,17 @@ module _ {X : Type 0} (outside_of : X → Outside) (seeded : X → Seeded) (star
 
 -- ---- the law
 
-abbrev begun_of : {X : Type 0} → Visit X → Begun X
+abbrev begun_of : {X : Type 0} → Visit X → SessionStart X
 begun_of v = v.begun
 
-module _ {X : Type 0} (outside_of : X → Outside) (seeded : X → Seeded) (opened : Past)
-    (door door_after : Option (Door X)) (told told_after : Option (Told X))
-    (s : ServesFrom outside_of seeded opened (view_of opened []) door told door_after told_after) where
+module _ {X : Type 0} (outside_of : X → Outside) (seeded : X → WordsBySeeding) (opened : Past)
+    (door door_after : Option (Door X)) (content content_after : Option (HandedSessions X))
+    (s : ServesFrom outside_of seeded opened (view_of opened []) door content door_after content_after) where
   abbrev closed : Past
   closed = s.hands.contexts
 
-  abbrev start : Stand X
-  start = record { given = tt; seed = s.seed; door = door; told = told; world = view_of opened [] }
+  abbrev start : ServerState X
+  start = record { given = tt; seed = s.seed; door = door; content = content; world = view_of opened [] }
 
   begin : Every (λ (v : Visit X). BeginsAfter {k = naming} {X = X} start v.begun) s.whole.visits
   begin =
@@ -160,9 +161,9 @@ module _ {X : Type 0} (outside_of : X → Outside) (seeded : X → Seeded) (open
       all-right outside_of seeded start opened closed refl s.end.world s.hands.closes s.whole.visits s.whole.each begin
       s.whole.seen
 
-  changed : (place : ℕ) → In place s.end.world.own → HasChanged {k = naming} {X = X} tt place s.whole.visits
+  changed : (place : ℕ) → In place s.end.world.own → HasChangedOnce {k = naming} {X = X} tt place s.whole.visits
   changed place own =
-      elim (s.whole.changed tt place own) as (λ _. HasChanged {k = naming} {X = X} tt place s.whole.visits) [
+      elim (s.whole.changed tt place own) as (λ _. HasChangedOnce {k = naming} {X = X} tt place s.whole.visits) [
         | inl h ↦ absurd h
         | inr h ↦ h
       ]
@@ -178,5 +179,5 @@ module _ {X : Type 0} (outside_of : X → Outside) (seeded : X → Seeded) (open
   }
 
 pub of-sessions : (X : Type 0) → ChangesAreOfSessions X
-of-sessions X outside_of seeded opened door door_after told told_after s =
-    of-all outside_of seeded opened door door_after told told_after s
+of-sessions X outside_of seeded opened door door_after content content_after s =
+    of-all outside_of seeded opened door door_after content content_after s

@@ -5,9 +5,9 @@ use Rattle.std.specs.List.{AllByRecursion}
 use Rattle.td_cdr.specs.Marks.{In}
 use Rattle.td_cell.specs.Lists.{Rises as RisesBy, itself}
 use Rattle.td_name_session.proofs.Following.{accepted-stand, own-accepted, points-rise}
-use Rattle.td_name_session.specs.Laws.{Rises, Stands, place_by, place_in, places_of}
+use Rattle.td_name_session.specs.Laws.{NeverFalls, Stands, place_by, place_in, places_of}
 use Rattle.td_name_session.specs.Scenes.{Scene}
-use Rattle.td_name_session.specs.Turns.{Noted, Run, Turn, journal_of, point_in, seen_in}
+use Rattle.td_name_session.specs.Turns.{ServedRequest, Run, Turn, journal_of, point_in, seen_in}
 use Rattle.td_naming.specs.Histories.{Past}
 use Rattle.td_naming.specs.declared.history.NameChange.{NameChange}
 use Rattle.td_name_sessions_laws.proofs.Times.{in-either, in-first, in-second, rises-both}
@@ -22,13 +22,13 @@ accepted-by true place points h = (refl, h)
 accepted-by false place points h = absurd h
 
 -- a place is that of an accepted Request, and a point that was noted
-record IsPlace (r : Option Noted) (points : List ℕ) (place : ℕ) : Type 0 where
-  noted : Noted
+record IsPlace (r : Option ServedRequest) (points : List ℕ) (place : ℕ) : Type 0 where
+  noted : ServedRequest
   request : r ≡ Some noted
   accepted : noted.accepted ≡ true
   point : In place points
 
-is-place : (r : Option Noted) (points : List ℕ) (place : ℕ) → In place (place_by r points) → IsPlace r points place
+is-place : (r : Option ServedRequest) (points : List ℕ) (place : ℕ) → In place (place_by r points) → IsPlace r points place
 is-place None points place h = absurd h
 is-place (Some n) points place h =
     let a = accepted-by n.accepted place points h in
@@ -38,7 +38,7 @@ rises-by : (b : Bool) (points : List ℕ) → RisesBy itself points → RisesBy 
 rises-by true points r = r
 rises-by false points r = tt
 
-place-rises : (r : Option Noted) (points : List ℕ) → RisesBy itself points → RisesBy itself (place_by r points)
+place-rises : (r : Option ServedRequest) (points : List ℕ) → RisesBy itself points → RisesBy itself (place_by r points)
 place-rises None points h = tt
 place-rises (Some n) points h = rises-by n.accepted points h
 
@@ -68,7 +68,7 @@ of-each P [] x a h = absurd h
 of-each P (y ∷ xs) x a (inl e) = subst P (sym e) a.0
 of-each P (y ∷ xs) x a (inr h) = of-each P xs x a.1 h
 
-no-lower : (low : ℕ) (xs : List ℕ) (high x : ℕ) → Rises low xs high → In x xs → low ≤ x
+no-lower : (low : ℕ) (xs : List ℕ) (high x : ℕ) → NeverFalls low xs high → In x xs → low ≤ x
 no-lower low [] high x r h = absurd h
 no-lower low (y ∷ xs) high x r (inl e) = subst (λ (i : ℕ). low ≤ i) (sym e) r.0
 no-lower low (y ∷ xs) high x r (inr h) =
@@ -79,7 +79,7 @@ no-lower low (y ∷ xs) high x r (inr h) =
 -- each accepted change stands, and later points are above it
 abbrev AllStand : Scene → List Turn → Type 0
 AllStand u ts =
-    (before rest : List Turn) (t : Turn) (n : Noted) → ts ≡ before ++ t ∷ rest → t.request ≡ Some n
+    (before rest : List Turn) (t : Turn) (n : ServedRequest) → ts ≡ before ++ t ∷ rest → t.request ≡ Some n
     → n.accepted ≡ true → Stands u t rest
 
 below : (u : Scene) (t : Turn) (ts : List Turn) (place later : ℕ) → AllStand u (t ∷ ts) → In place (place_in t)

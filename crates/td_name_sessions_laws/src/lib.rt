@@ -1,5 +1,5 @@
-//! What holds of all sessions that a server of naming contexts has served, as functions that do nothing: their contracts
-//! are the laws.
+//! What holds of all sessions that a server of naming contexts has served, as functions that do nothing: their
+//! contracts are the laws.
 #![tactic(auto)]
 
 mod laws;

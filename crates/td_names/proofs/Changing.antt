@@ -4,12 +4,13 @@ use Rattle.std.proofs.Common.{nat_eq, refl, subst, sym}
 use Rattle.std.proofs.Common.{inl, inr, List}
 use Rattle.std.proofs.lemmas.Bool.{cases_Bool}
 use Rattle.std.specs.Prelude.{IfErr}
-use Rattle.td_codes.specs.declared.reference.Ior.{Ior}
-use Rattle.td_names.specs.Applying.{Applies, at_place, bound_anew, context_bound_anew, destroyed, done, done_at}
-use Rattle.td_names.specs.Applying.{done_where, next_reference, rebound, resolved, set_bindings, unbound}
+use Rattle.td_typecode.specs.declared.reference.Ior.{Ior}
+use Rattle.td_names.specs.Applying.{AppliesCall, at_place, bound_anew, context_bound_anew, destroy_context, done}
+use Rattle.td_names.specs.Applying.{done_at}
+use Rattle.td_names.specs.Applying.{done_where, next_reference, rebound, resolve_component, set_bindings, unbound}
 use Rattle.td_names.specs.Applying.{unless_full, with_bound, with_bound_context, with_context, without_bound}
-use Rattle.td_names.specs.Changing.{Changes, change_reply, is_change}
-use Rattle.td_names.specs.Changing.Changes.{refused, other, accepted}
+use Rattle.td_names.specs.Changing.{ChangesStore, change_reply, is_change}
+use Rattle.td_names.specs.Changing.ChangesStore.{refused, other, accepted}
 use Rattle.td_names.specs.Refusing.{is_refusal}
 use Rattle.td_names.specs.Stores.{Bindings, Store, bindings_full, bindings_of, bound_in, changes_full, contexts_full}
 use Rattle.td_names.specs.Limits.{name_fits}
@@ -25,12 +26,12 @@ use Rattle.td_names.specs.declared.component.Bound.{Bound}
 use Rattle.td_names.specs.declared.component.NameComponent.{NameComponent}
 
 abbrev Comes : Store → NameAct → Store × NameAnswer → Type 0
-Comes s a p = Changes s a p.1 p.0
+Comes s a p = ChangesStore s a p.1 p.0
 
 unless : (full : Bool) (s t : Store) (a : NameAct) (r : NameAnswer) → is_change a ≡ true → r ≡ Done (change_reply s a)
     → t.changes ≡ s.changes + 1 → Comes s a (unless_full full s t r)
-unless true s t a r change told more = refused refl refl
-unless false s t a r change told more = accepted change told more
+unless true s t a r change content more = refused refl refl
+unless false s t a r change content more = accepted change content more
 
 -- ---- a walk that ends in no context ends in a refusal
 
@@ -77,9 +78,9 @@ at s a (Err x) go r h = refused r refl
 -- where a bind is asked for, whose accepted change is answered with nothing
 bound_so : (s : Store) (a : NameAct) (d : ℕ) (k : NameComponent) (b : Bound) (o : Option Bound) → is_change a ≡ true
     → done ≡ Done (change_reply s a) → Comes s a (bound_anew s d k b o)
-bound_so s a d k b (Some old) change told = refused refl refl
-bound_so s a d k b None change told =
-    unless (changes_full s || bindings_full s) s (with_bound s d k b) a done change told refl
+bound_so s a d k b (Some old) change content = refused refl refl
+bound_so s a d k b None change content =
+    unless (changes_full s || bindings_full s) s (with_bound s d k b) a done change content refl
 
 rebound_so : (s : Store) (name : List NameComponent) (d : ℕ) (k : NameComponent) (x : Ior) (o : Option Bound)
     → Comes s (act.Rebind name x) (rebound s d k x o)
@@ -97,7 +98,7 @@ rebound_so s name d k x (Some old) = on old.context
         refl refl refl
 
 resolved_so : (s : Store) (name : List NameComponent) (k : NameComponent) (o : Option Bound)
-    → Comes s (act.Resolve name) (resolved s k o)
+    → Comes s (act.Resolve name) (resolve_component s k o)
 resolved_so s name k None = other refl refl
 resolved_so s name k (Some b) = other refl refl
 
@@ -114,7 +115,7 @@ context_so s name d k None =
     unless (changes_full s || bindings_full s || contexts_full s) s (with_bound_context s d k)
     (act.BindNewContext name) (Done (reply.Object (next_reference s))) refl refl refl
 
-destroyed_so : (s : Store) (c : ℕ) (bs : Bindings) → Comes s act.Destroy (destroyed s c bs)
+destroyed_so : (s : Store) (c : ℕ) (bs : Bindings) → Comes s act.Destroy (destroy_context s c bs)
 destroyed_so s c [] = elim (cases_Bool (nat_eq c 1)) [
   | inl root ↦ rw root (refused refl refl)
   | inr not_root ↦
@@ -154,6 +155,6 @@ where_so : (s : Store) (c : ℕ) (o : Option Bindings) (a : NameAct) → Comes s
 where_so s c None a = refused refl refl
 where_so s c (Some bs) a = done_so s c bs a
 
-pub changes_or_keeps : (s t : Store) (c : ℕ) (a : NameAct) (r : NameAnswer) → Applies s c a r t → Changes s a r t
+pub changes_or_keeps : (s t : Store) (c : ℕ) (a : NameAct) (r : NameAnswer) → AppliesCall s c a r t → ChangesStore s a r t
 changes_or_keeps s t c a r h =
     subst (λ (p : Store × NameAnswer). Comes s a p) (sym h) (where_so s c (bindings_of s c) a)

@@ -7,7 +7,7 @@ use Rattle.std.proofs.lemmas.List.Sums.{sum_by-set, sum_by-append, get_or-le-sum
 use Rattle.std.proofs.lemmas.Option.{get_or_from_slice_get, slice_get_cases, slice_get_read}
 use Rattle.std.proofs.lemmas.Bool.{cases_Bool, ltb-true, lt-ltb, leb-false}
 use mir.Val.{bool_byte}
-use Rattle.td_names.specs.Stores.{AreCounted, Bindings, binding_count, bindings_in, count_in, joined, looked_up}
+use Rattle.td_names.specs.Stores.{AreCounted, Bindings, binding_count, bindings_in, count_in, join_options, looked_up}
 use Rattle.td_names.specs.declared.component.NameComponent.{NameComponent}
 
 pub within : (contexts : List (Option Bindings)) (i : ℕ) (old : Option Bindings) → slice_get contexts i ≡ Some old
@@ -62,7 +62,7 @@ has_place contexts n live = elim (cases_Bool (nat_lt 0 n)) [
 ]
   where
     inside : (o : Option (Option Bindings)) → slice_get contexts (n - 1) ≡ o
-        → is_some (joined (slice_get contexts (n - 1))) ≡ true
+        → is_some (join_options (slice_get contexts (n - 1))) ≡ true
         → n - 1 < length contexts
     inside None e h = absurd (true≢false (sym h ∙ rw e refl))
     inside (Some x) e h = within contexts (n - 1) x e

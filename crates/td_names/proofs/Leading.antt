@@ -9,18 +9,18 @@ use Rattle.std.proofs.lemmas.Bool.Decides.{nat_tests}
 use Rattle.std.proofs.lemmas.Fmt.{length-decimal-le}
 use Rattle.std.proofs.lemmas.List.{take-append-drop}
 use Rattle.std.proofs.lemmas.Slice.Eq.{bytes_eq-Decides}
-use Rattle.td_codes.specs.declared.reference.Ior.{Ior}
+use Rattle.td_typecode.specs.declared.reference.Ior.{Ior}
 use Rattle.td_ior.proofs.Numbers.{and-left, and-right, below-only, below-read}
 use Rattle.td_ior.proofs.Profiles.{first-agrees, made-found}
-use Rattle.td_ior.specs.Laws.{Agrees}
+use Rattle.td_ior.specs.Laws.{ReadsWhatIsSpelled}
 use Rattle.td_ior.specs.Number.{number_below}
 use Rattle.td_ior.specs.Profiles.{first_iiop, iiop_of, made_octets}
 use Rattle.td_ior.specs.declared.profile.Iiop.{Iiop}
 use Rattle.td_names.specs.declared.address.Address.{Address}
 use Rattle.td_names.specs.References.{IsAddress, IsContextNumber, LeadsTo, SpellsContext, context_id, context_key}
-use Rattle.td_names.specs.References.{context_number, from_one, led_to, number_by, reference_of}
+use Rattle.td_names.specs.References.{context_number, from_one, context_of_reference, number_by, reference_of}
 use Rattle.td_cdr.specs.declared.order.Order.{Order}
-use Rattle.td_codes.specs.References.{reference}
+use Rattle.td_typecode.specs.References.{reference}
 use Rattle.td_names.proofs.Lengths.{made-short, made_reference-short}
 
 -- ---- keys
@@ -70,7 +70,7 @@ made-number n some short =
 key-only : (key : List ℕ) (n : ℕ) → SpellsContext key n → context_number key ≡ Some n
 key-only key n s = ap context_number s.written ∙ made-number n s.number.0 s.number.1
 
-pub keys-agree : Agrees SpellsContext context_number
+pub keys-agree : ReadsWhatIsSpelled SpellsContext context_number
 keys-agree = record { found = key-found; only = key-only }
 
 -- ---- references
@@ -93,7 +93,7 @@ number-found home r None n first e = absurd cc
 number-found home r (Some p) n first e =
     number-found-at (bytes_eq p.host home.host && nat_eq p.port home.port) home r p n refl first e
 
-led-found : (home : Address) (r : Ior) (n : ℕ) → led_to home r ≡ Some n → LeadsTo home r n
+led-found : (home : Address) (r : Ior) (n : ℕ) → context_of_reference home r ≡ Some n → LeadsTo home r n
 led-found home r n e = number-found home r (iiop_of r) n refl e
 
 same-host : (a b : List ℕ) → a ≡ b → bytes_eq a b ≡ true
@@ -102,21 +102,21 @@ same-host a b e = (bytes_eq-Decides a b).1 e
 same-port : (a b : ℕ) → a ≡ b → nat_eq a b ≡ true
 same-port a b e = grind (arith, nat_tests)
 
-led-only : (home : Address) (r : Ior) (n : ℕ) → LeadsTo home r n → led_to home r ≡ Some n
+led-only : (home : Address) (r : Ior) (n : ℕ) → LeadsTo home r n → context_of_reference home r ≡ Some n
 led-only home r n s =
     let first : first_iiop r.profiles ≡ Some s.profile = first-agrees.only r.profiles s.profile s.first in
     let host : bytes_eq s.profile.host home.host ≡ true = same-host s.profile.host home.host s.host in
     let port : nat_eq s.profile.port home.port ≡ true = same-port s.profile.port home.port s.port in
     rw (first, host, port) (key-only s.profile.key n s.key)
 
-pub references-agree : (home : Address) → Agrees (LeadsTo home) (led_to home)
+pub references-agree : (home : Address) → ReadsWhatIsSpelled (LeadsTo home) (context_of_reference home)
 references-agree home = record { found = led-found home; only = led-only home }
 
 digits-short : (n : ℕ) → n < 2 ^ 32 → length (decimal n) ≤ 10
 digits-short n short = length-decimal-le 10 n (omega arith) (omega (arith, short)) (omega (arith, short))
 
 pub reference-back : (home : Address) (n : ℕ) → IsAddress home → IsContextNumber n
-    → led_to home (reference_of home n) ≡ Some n
+    → context_of_reference home (reference_of home n) ≡ Some n
 reference-back home n a is =
     let key : length (context_key n) ≤ 12 = omega (
       arith,

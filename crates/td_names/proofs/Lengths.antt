@@ -8,8 +8,8 @@ use Rattle.td_cdr.specs.Sound.{octets, text}
 use Rattle.td_cdr.specs.Writing.{written_number, written_octets}
 use Rattle.td_cdr.specs.declared.order.Order.{Order}
 use Rattle.td_cdr.specs.declared.order.Order.TheVariants.{Big, Little}
-use Rattle.td_codes.specs.References.{profile, reference}
-use Rattle.td_codes.specs.declared.reference.Profile.{Profile}
+use Rattle.td_typecode.specs.References.{profile, reference}
+use Rattle.td_typecode.specs.declared.reference.Profile.{Profile}
 use Rattle.td_ior.specs.Profiles.{made_octets, made_profile, made_reference}
 
 length-bytes_of : (order : Order) (size v : ℕ) → length (bytes_of order size v) ≡ size

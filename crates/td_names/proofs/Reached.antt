@@ -2,11 +2,11 @@
 use Rattle.std.proofs.Common.{◌≡◌, ℕ, Bool, true, false, cond, List, [], ◌∷◌, ◌++◌, Option, None, Some, Result, Ok, Err}
 use Rattle.std.proofs.Common.{refl, ap, sym, ◌∙◌, inl, inr, is_some, true≢false}
 use Rattle.std.proofs.lemmas.Bool.{cases_Bool}
-use Rattle.td_codes.specs.declared.reference.Ior.{Ior}
-use Rattle.td_names.specs.Applying.{applied, at_place, done_where, resolved}
+use Rattle.td_typecode.specs.declared.reference.Ior.{Ior}
+use Rattle.td_names.specs.Applying.{apply_act, at_place, done_where, resolve_component}
 use Rattle.td_names.specs.Limits.{name_fits}
-use Rattle.td_names.specs.Reaching.{Chain, Leads, Reach, last_context}
-use Rattle.td_names.specs.References.{led_to}
+use Rattle.td_names.specs.Reaching.{ContextChain, Leads, Reach, last_context}
+use Rattle.td_names.specs.References.{context_of_reference}
 use Rattle.td_names.specs.Refusing.{is_refusal}
 use Rattle.td_names.specs.Stores.{Bindings, Store, bindings_of, bound_in, is_live}
 use Rattle.td_names.specs.Walking.{holder, if_live, last_of, missing_node, next_context, not_context, not_found}
@@ -26,7 +26,7 @@ record Route (s : Store) (c : ℕ) (name : List NameComponent) (d : ℕ) : Type 
   front : List NameComponent
   parts : name ≡ front ++ last_of name ∷ []
   contexts : List ℕ
-  chain : Chain s c front contexts
+  chain : ContextChain s c front contexts
   end : last_context c contexts ≡ d
 
 longer : (s : Store) (c : ℕ) (k l : NameComponent) (ks : List NameComponent) (n d : ℕ) → Leads s c k n
@@ -52,11 +52,11 @@ led_on s (Some m) n h = elim (cases_Bool (is_live s m)) [
 
 onto_route : {P : Type 0} (s : Store) (c : ℕ) (k : NameComponent) (o : Option ℕ) (b : Bound) (rest : List NameComponent)
     (go : ℕ → Result ℕ NameAnswer) (d : ℕ) → bound_in s c k ≡ Some b → b.context ≡ true
-    → if_live s (led_to s.home b.object) ≡ o
+    → if_live s (context_of_reference s.home b.object) ≡ o
     → ((n : ℕ) → Leads s c k n → go n ≡ Ok d → P) → through_context o b rest go ≡ Ok d → P
 onto_route s c k None b rest go d is goes e more h = absurd (let no_way : ⊥ = cc in no_way)
 onto_route s c k (Some n) b rest go d is goes e more h =
-    let on = led_on s (led_to s.home b.object) n e in
+    let on = led_on s (context_of_reference s.home b.object) n e in
     more n (record { bound = b; there = is; context = goes; to = on.0; live = on.1 }) h
 
 onto_or_not : {P : Type 0} (flag : Bool) (s : Store) (c : ℕ) (k : NameComponent) (b : Bound)
@@ -92,7 +92,7 @@ nonempty : (fs : List NameComponent) (k : NameComponent)
 nonempty [] k = (k, [], refl)
 nonempty (f ∷ fs) k = (f, fs ++ k ∷ [], refl)
 
-walked : (s : Store) (c : ℕ) (front : List NameComponent) (ds : List ℕ) (k : NameComponent) → Chain s c front ds
+walked : (s : Store) (c : ℕ) (front : List NameComponent) (ds : List ℕ) (k : NameComponent) → ContextChain s c front ds
     → holder s c (front ++ k ∷ []) ≡ Ok (last_context c ds)
 walked s c [] [] k h = refl
 walked s c [] (d ∷ ds) k h = absurd h
@@ -107,13 +107,13 @@ walked s c (f ∷ fs) (d ∷ ds) k h =
 -- ---- resolve
 
 resolve_is : (s : Store) (c : ℕ) (name : List NameComponent) → is_live s c ≡ true → name_fits name ≡ true
-    → applied s c (act.Resolve name)
-    ≡ at_place s (holder s c name) (λ d. resolved s (last_of name) (bound_in s d (last_of name)))
+    → apply_act s c (act.Resolve name)
+    ≡ at_place s (holder s c name) (λ d. resolve_component s (last_of name) (bound_in s d (last_of name)))
 resolve_is s c name live fits = at_live (bindings_of s c) live ∙ rw fits refl
   where
     at_live : (o : Option Bindings) → is_some o ≡ true
         → done_where s c o (act.Resolve name)
-        ≡ at_place s (place s c name) (λ d. resolved s (last_of name) (bound_in s d (last_of name)))
+        ≡ at_place s (place s c name) (λ d. resolve_component s (last_of name) (bound_in s d (last_of name)))
     at_live None h = absurd (true≢false (sym h))
     at_live (Some bs) h = refl
 
@@ -146,17 +146,17 @@ refusing s c (k ∷ []) = tt
 refusing s c (k ∷ l ∷ ks) =
     through_refusing s (bound_in s c k) (k ∷ l ∷ ks) (l ∷ ks) (λ e. holder s e (l ∷ ks)) (λ n. refusing s n (l ∷ ks))
 
-told_of : (s : Store) (r q : NameAnswer) → ◌≡◌ {A = Store × NameAnswer} (s, r) (s, q) → r ≡ q
-told_of s r q h = ap (λ (p : Store × NameAnswer). p.1) h
+content_of : (s : Store) (r q : NameAnswer) → ◌≡◌ {A = Store × NameAnswer} (s, r) (s, q) → r ≡ q
+content_of s r q h = ap (λ (p : Store × NameAnswer). p.1) h
 
 object_of : (a b : Ior) → Done (reply.Object a) ≡ Done (reply.Object b) → a ≡ b
 object_of a b h = cc
 
 bound_found : (s : Store) (c : ℕ) (name : List NameComponent) (object : Ior) (d : ℕ) (o : Option Bound)
     → Route s c name d → bound_in s d (last_of name) ≡ o
-    → resolved s (last_of name) o ≡ (s, Done (reply.Object object)) → Reach s c name object
+    → resolve_component s (last_of name) o ≡ (s, Done (reply.Object object)) → Reach s c name object
 bound_found s c name object d None r f h =
-    let bad = told_of s (not_found missing_node (last_of name ∷ [])) (Done (reply.Object object)) h in
+    let bad = content_of s (not_found missing_node (last_of name ∷ [])) (Done (reply.Object object)) h in
     absurd (let no_way : ⊥ = cc in no_way)
 bound_found s c name object d (Some b) r f h = record {
   front = r.front;
@@ -166,28 +166,28 @@ bound_found s c name object d (Some b) r f h = record {
   chain = r.chain;
   bound = b;
   there = rw r.end f;
-  is = object_of b.object object (told_of s (Done (reply.Object b.object)) (Done (reply.Object object)) h);
+  is = object_of b.object object (content_of s (Done (reply.Object b.object)) (Done (reply.Object object)) h);
 }
 
 found : (s : Store) (c : ℕ) (name : List NameComponent) (object : Ior) (r : Result ℕ NameAnswer) → holder s c name ≡ r
     → IsRefusing r
-    → at_place s r (λ d. resolved s (last_of name) (bound_in s d (last_of name))) ≡ (s, Done (reply.Object object))
+    → at_place s r (λ d. resolve_component s (last_of name) (bound_in s d (last_of name))) ≡ (s, Done (reply.Object object))
     → Reach s c name object
 unfolding IsRefusing
 found s c name object (Err x) e refuses h =
-    let is : x ≡ Done (reply.Object object) = told_of s x (Done (reply.Object object)) h in
+    let is : x ≡ Done (reply.Object object) = content_of s x (Done (reply.Object object)) h in
     absurd (true≢false (sym refuses ∙ ap is_refusal is))
 found s c name object (Ok d) e refuses h =
     bound_found s c name object d (bound_in s d (last_of name)) (route s c name d e) refl h
 
 pub resolved_reaches : (s : Store) (c : ℕ) (name : List NameComponent) (object : Ior) → name_fits name ≡ true
-    → is_live s c ≡ true → (s, Done (reply.Object object)) ≡ applied s c (act.Resolve name) → Reach s c name object
+    → is_live s c ≡ true → (s, Done (reply.Object object)) ≡ apply_act s c (act.Resolve name) → Reach s c name object
 resolved_reaches s c name object fits live h =
     found s c name object (holder s c name) refl (refusing s c name)
     (sym (resolve_is s c name live fits) ∙ sym h)
 
 pub reached_resolves : (s : Store) (c : ℕ) (name : List NameComponent) (object : Ior) → name_fits name ≡ true
-    → is_live s c ≡ true → Reach s c name object → (s, Done (reply.Object object)) ≡ applied s c (act.Resolve name)
+    → is_live s c ≡ true → Reach s c name object → (s, Done (reply.Object object)) ≡ apply_act s c (act.Resolve name)
 reached_resolves s c name object fits live r =
     let walk : holder s c name ≡ Ok (last_context c r.contexts) =
     ap (holder s c) r.parts ∙ walked s c r.front r.contexts r.last r.chain in

@@ -5,9 +5,11 @@ use Rattle.std.proofs.Common.{refl, sym, ◌∙◌, inl, inr, arith, true≢fals
 use Rattle.std.proofs.lemmas.Bool.{cases_Bool}
 use Rattle.std.proofs.lemmas.List.{length-set, length-append}
 use Rattle.indexmap.specs.IndexMap.{insert_entry}
-use Rattle.td_codes.specs.declared.reference.Ior.{Ior}
-use Rattle.td_names.specs.Applying.{Applies, at_place, bound_anew, context_bound_anew, destroyed, done, done_at}
-use Rattle.td_names.specs.Applying.{done_where, listed, next_reference, or_none, rebound, resolved, set_bindings}
+use Rattle.td_typecode.specs.declared.reference.Ior.{Ior}
+use Rattle.td_names.specs.Applying.{AppliesCall, at_place, bound_anew, context_bound_anew, destroy_context, done}
+use Rattle.td_names.specs.Applying.{done_at}
+use Rattle.td_names.specs.Applying.{done_where, list_bindings, next_reference, or_none, rebound, resolve_component}
+use Rattle.td_names.specs.Applying.{set_bindings}
 use Rattle.td_names.specs.Applying.{unbound, unless_full, with_bound, with_bound_context, with_context, without_bound}
 use Rattle.td_names.specs.Refusing.{is_refusal}
 use Rattle.td_names.specs.Stores.{Bindings, Store, bindings_full, bindings_of, bound_in, changes_full, contexts_full}
@@ -75,7 +77,7 @@ rebound_so s d k x (Some old) = on old.context
         unless (changes_full s) s (with_bound s d k (record { context = false; object = x })) done refl refl refl
         (setting s d _)
 
-resolved_so : (s : Store) (k : NameComponent) (o : Option Bound) → Steps s (resolved s k o)
+resolved_so : (s : Store) (k : NameComponent) (o : Option Bound) → Steps s (resolve_component s k o)
 resolved_so s k None = same s (not_found missing_node (k ∷ []))
 resolved_so s k (Some b) = same s (Done (reply.Object b.object))
 
@@ -94,7 +96,7 @@ context_so s d k None =
     unless (changes_full s || bindings_full s || contexts_full s) s (with_bound_context s d k)
     (Done (reply.Object (next_reference s))) refl refl refl (omega (arith, first, second))
 
-destroyed_so : (s : Store) (c : ℕ) (bs : Bindings) → Steps s (destroyed s c bs)
+destroyed_so : (s : Store) (c : ℕ) (bs : Bindings) → Steps s (destroy_context s c bs)
 destroyed_so s c [] = elim (cases_Bool (nat_eq c 1)) [
   | inl root ↦ rw root (same s (System NoImplement))
   | inr other ↦
@@ -123,23 +125,23 @@ done_so s c bs act.NewContext =
 done_so s c bs (act.BindNewContext name) =
     at s (place s c name) _ (λ d. context_so s d (last_of name) (bound_in s d (last_of name)))
 done_so s c bs act.Destroy = destroyed_so s c bs
-done_so s c bs act.List = same s (listed bs)
+done_so s c bs act.List = same s (list_bindings bs)
 
 where_so : (s : Store) (c : ℕ) (o : Option Bindings) (a : NameAct) → Steps s (done_where s c o a)
 where_so s c None a = same s (System ObjectNotExist)
 where_so s c (Some bs) a = done_so s c bs a
 
-steps : (s t : Store) (c : ℕ) (a : NameAct) (r : NameAnswer) → Applies s c a r t → Steps s (t, r)
+steps : (s t : Store) (c : ℕ) (a : NameAct) (r : NameAnswer) → AppliesCall s c a r t → Steps s (t, r)
 steps s t c a r h = rw h (where_so s c (bindings_of s c) a)
 
-pub refusal_keeps : (s t : Store) (c : ℕ) (a : NameAct) (r : NameAnswer) → Applies s c a r t → is_refusal r ≡ true
+pub refusal_keeps : (s t : Store) (c : ℕ) (a : NameAct) (r : NameAnswer) → AppliesCall s c a r t → is_refusal r ≡ true
     → t ≡ s
 refusal_keeps s t c a r h refused = elim (steps s t c a r h).kept [
   | inl is ↦ is
   | inr accepted ↦ absurd (true≢false (sym refused ∙ accepted))
 ]
 
-pub changes_once : (s t : Store) (c : ℕ) (a : NameAct) (r : NameAnswer) → Applies s c a r t
+pub changes_once : (s t : Store) (c : ℕ) (a : NameAct) (r : NameAnswer) → AppliesCall s c a r t
     → (t.home ≡ s.home) × (s.changes ≤ t.changes) × (t.changes ≤ s.changes + 1)
     × (length s.contexts ≤ length t.contexts)
 changes_once s t c a r h = let x = steps s t c a r h in (x.home, x.least, x.most, x.contexts)

@@ -6,7 +6,7 @@ use Rattle.std.specs.Prelude.{IfOk}
 use Rattle.std.proofs.lemmas.List.{drop_more}
 use Rattle.std.proofs.Math.ListN.{drop_of_length-le}
 use Rattle.std.proofs.lemmas.Bool.{cases_Bool}
-use Rattle.td_names.specs.References.{led_to}
+use Rattle.td_names.specs.References.{context_of_reference}
 use Rattle.td_names.specs.Stores.{Store, bound_in, is_live}
 use Rattle.td_names.specs.Walking.{holder, if_live, next_context, nobody, not_context, not_found, through}
 use Rattle.td_names.specs.Walking.{through_context}
@@ -60,10 +60,10 @@ on_live s (Some n) d h = elim (cases_Bool (is_live s n)) [
 
 -- on through a binding, where so it is from each context behind it
 onto_live : (s : Store) (o : Option ℕ) (b : Bound) (rest : List NameComponent) (go : ℕ → Result ℕ NameAnswer) (d : ℕ)
-    → if_live s (led_to s.home b.object) ≡ o → ((n : ℕ) → is_live s n ≡ true → go n ≡ Ok d → is_live s d ≡ true)
+    → if_live s (context_of_reference s.home b.object) ≡ o → ((n : ℕ) → is_live s n ≡ true → go n ≡ Ok d → is_live s d ≡ true)
     → through_context o b rest go ≡ Ok d → is_live s d ≡ true
 onto_live s None b rest go d e more h = absurd (let no_way : ⊥ = cc in no_way)
-onto_live s (Some n) b rest go d e more h = more n (on_live s (led_to s.home b.object) n e) h
+onto_live s (Some n) b rest go d e more h = more n (on_live s (context_of_reference s.home b.object) n e) h
 
 onto_or_not : (flag : Bool) (s : Store) (b : Bound) (name rest : List NameComponent) (go : ℕ → Result ℕ NameAnswer)
     (d : ℕ)

@@ -5,7 +5,7 @@ use Rattle.std.specs.Prelude.{◌≡◌, ℕ, ◌-◌, ◌+◌, Bool, true, fals
 use Rattle.std.specs.Prelude.{length, slice_set, Option, Some, None, Result, Ok, Err, map}
 use Rattle.std.specs.Map.{remove_entry}
 use Rattle.indexmap.specs.IndexMap.{insert_entry}
-use Rattle.td_codes.specs.declared.reference.Ior.{Ior}
+use Rattle.td_typecode.specs.declared.reference.Ior.{Ior}
 use Rattle.td_names.specs.declared.act.NameAct.{NameAct}
 use Rattle.td_names.specs.declared.act.NameAct.TheVariants as act
 use Rattle.td_names.specs.declared.act.NameAnswer.{NameAnswer}
@@ -88,9 +88,9 @@ rebound s d k o (Some old) =
     (unless_full (changes_full s) s (with_bound s d k (record { context = false; object = o }))
     done)
 
-abbrev pub resolved : Store → NameComponent → Option Bound → Store × NameAnswer
-resolved s k None = (s, not_found missing_node (k ∷ []))
-resolved s k (Some b) = (s, Done (reply.Object b.object))
+abbrev pub resolve_component : Store → NameComponent → Option Bound → Store × NameAnswer
+resolve_component s k None = (s, not_found missing_node (k ∷ []))
+resolve_component s k (Some b) = (s, Done (reply.Object b.object))
 
 abbrev pub unbound : Store → ℕ → NameComponent → Option Bound → Store × NameAnswer
 unbound s d k None = (s, not_found missing_node (k ∷ []))
@@ -108,16 +108,16 @@ context_bound_anew s d k None =
     unless_full (changes_full s || bindings_full s || contexts_full s) s (with_bound_context s d k)
     (Done (reply.Object (next_reference s)))
 
-abbrev pub destroyed : Store → ℕ → Bindings → Store × NameAnswer
-destroyed s c [] = cond (nat_eq c 1) (s, System NoImplement)
+abbrev pub destroy_context : Store → ℕ → Bindings → Store × NameAnswer
+destroy_context s c [] = cond (nat_eq c 1) (s, System NoImplement)
     (unless_full (changes_full s) s (set_bindings s c None) done)
-destroyed s c (b ∷ bs) = cond (nat_eq c 1) (s, System NoImplement) (s, User fault.NotEmpty)
+destroy_context s c (b ∷ bs) = cond (nat_eq c 1) (s, System NoImplement) (s, User fault.NotEmpty)
 
-abbrev pub told : NameComponent × Bound → NameBinding
-told p = record { name = p.0; context = p.1.context }
+abbrev pub binding_of : NameComponent × Bound → NameBinding
+binding_of p = record { name = p.0; context = p.1.context }
 
-abbrev pub listed : Bindings → NameAnswer
-listed bs = Done (reply.Bindings (map told bs))
+abbrev pub list_bindings : Bindings → NameAnswer
+list_bindings bs = Done (reply.Bindings (map binding_of bs))
 
 -- a call of a live context
 abbrev pub done_at : Store → ℕ → Bindings → NameAct → Store × NameAnswer
@@ -132,24 +132,25 @@ done_at s c bs (act.BindContext name o) =
 done_at s c bs (act.Rebind name o) =
     at_place s (place s c name) (λ d. rebound s d (last_of name) o (bound_in s d (last_of name)))
 done_at s c bs (act.Resolve name) =
-    at_place s (place s c name) (λ d. resolved s (last_of name) (bound_in s d (last_of name)))
+    at_place s (place s c name) (λ d. resolve_component s (last_of name)
+    (bound_in s d (last_of name)))
 done_at s c bs (act.Unbind name) =
     at_place s (place s c name) (λ d. unbound s d (last_of name) (bound_in s d (last_of name)))
 done_at s c bs act.NewContext = fresh_context s
 done_at s c bs (act.BindNewContext name) =
     at_place s (place s c name)
     (λ d. context_bound_anew s d (last_of name) (bound_in s d (last_of name)))
-done_at s c bs act.Destroy = destroyed s c bs
-done_at s c bs act.List = (s, listed bs)
+done_at s c bs act.Destroy = destroy_context s c bs
+done_at s c bs act.List = (s, list_bindings bs)
 
 abbrev pub done_where : Store → ℕ → Option Bindings → NameAct → Store × NameAnswer
 done_where s c None a = (s, System ObjectNotExist)
 done_where s c (Some bs) a = done_at s c bs a
 
 -- what a call leaves, and what it answers
-abbrev pub applied : Store → ℕ → NameAct → Store × NameAnswer
-applied s c a = done_where s c (bindings_of s c) a
+abbrev pub apply_act : Store → ℕ → NameAct → Store × NameAnswer
+apply_act s c a = done_where s c (bindings_of s c) a
 
 -- the call, answered so, takes the store s to t
-abbrev pub Applies : Store → ℕ → NameAct → NameAnswer → Store → Type 0
-Applies s c a r t = (t, r) ≡ applied s c a
+abbrev pub AppliesCall : Store → ℕ → NameAct → NameAnswer → Store → Type 0
+AppliesCall s c a r t = (t, r) ≡ apply_act s c a

@@ -28,8 +28,8 @@ change_reply s (act.BindNewContext name) = reply.Object (next_reference s)
 change_reply s a = reply.Nothing
 
 -- what a call that is answered so leaves of the store s
-pub data Changes (s : Store) (a : NameAct) (r : NameAnswer) (t : Store) : Type 0 where
-  refused : is_refusal r ≡ true → t ≡ s → Changes s a r t
-  other : is_change a ≡ false → t ≡ s → Changes s a r t
+pub data ChangesStore (s : Store) (a : NameAct) (r : NameAnswer) (t : Store) : Type 0 where
+  refused : is_refusal r ≡ true → t ≡ s → ChangesStore s a r t
+  other : is_change a ≡ false → t ≡ s → ChangesStore s a r t
   accepted : is_change a ≡ true → r ≡ Done (change_reply s a) → t.changes ≡ s.changes + 1
-      → Changes s a r t
+      → ChangesStore s a r t

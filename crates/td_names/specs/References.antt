@@ -5,7 +5,7 @@ use Rattle.std.specs.Prelude.{if◌then◌else◌, Option, Some, None}
 use Rattle.std.specs.Fmt.{decimal}
 use Rattle.std.specs.Str.{bytes_eq}
 use Rattle.td_cdr.specs.Text.{HasNoNul}
-use Rattle.td_codes.specs.declared.reference.Ior.{Ior}
+use Rattle.td_typecode.specs.declared.reference.Ior.{Ior}
 use Rattle.td_ior.specs.Number.{number_below}
 use Rattle.td_ior.specs.Profiles.{IsFirstIiop, iiop_of, made_reference}
 use Rattle.td_ior.specs.declared.profile.Iiop.{Iiop}
@@ -65,5 +65,5 @@ number_by home None = None
 number_by home (Some p) = number_at home p
 
 -- the context here that a reference leads to
-abbrev pub led_to : Address → Ior → Option ℕ
-led_to home reference = number_by home (iiop_of reference)
+abbrev pub context_of_reference : Address → Ior → Option ℕ
+context_of_reference home reference = number_by home (iiop_of reference)

@@ -2,7 +2,7 @@
 -- Naming Service, module CosNaming).
 use Rattle.std.specs.Prelude.{◌≡◌, ℕ, Bool, true, false, List, [], ◌∷◌, Option, Some, None, refl}
 use Rattle.td_cdr.specs.Place.{At}
-use Rattle.td_cdr.specs.Reading.{aligned}
+use Rattle.td_cdr.specs.Reading.{next_aligned}
 use Rattle.td_cdr.specs.Format.{partial_format}
 use Rattle.td_cdr.specs.FormatFaults.{PartialFault}
 use Rattle.td_cdr.specs.LawfulFormats.{partial_format-lawful}
@@ -34,24 +34,24 @@ binding_type = enumeration (false ∷ true ∷ []) binding_type_number
 
 -- ---- Binding: a name and a type. The name is of one component.
 
-abbrev pub Parts : Type 0
-Parts = List NameComponent × Bool
+abbrev pub NameParts : Type 0
+NameParts = List NameComponent × Bool
 
 abbrev pub binding_with : List NameComponent → Bool → Option NameBinding
 binding_with [] context = None
 binding_with (c ∷ []) context = Some (record { name = c; context = context })
 binding_with (c ∷ d ∷ ds) context = None
 
-abbrev pub binding_of : Parts → Option NameBinding
+abbrev pub binding_of : NameParts → Option NameBinding
 binding_of p = binding_with p.0 p.1
 
-abbrev pub parts_of : NameBinding → Parts
+abbrev pub parts_of : NameBinding → NameParts
 parts_of b = (b.name ∷ [], b.context)
 
-abbrev pub not_one : Parts → At → ValueFault
-not_one p a = BadValue (aligned 4 a)
+abbrev pub not_one : NameParts → At → ValueFault
+not_one p a = BadValue (next_aligned 4 a)
 
-abbrev pub binding_parts : Sound ValueFault Parts
+abbrev pub binding_parts : Sound ValueFault NameParts
 binding_parts = name & binding_type
 
 pub parts_back : (components : List NameComponent) (context : Bool) (b : NameBinding)

@@ -31,13 +31,13 @@ start home = record { home = home; contexts = Some [] ∷ []; changes = 0 }
 
 -- ---- contexts and what is bound in them
 
-abbrev pub joined : {X : Type 0} → Option (Option X) → Option X
-joined None = None
-joined (Some o) = o
+abbrev pub join_options : {X : Type 0} → Option (Option X) → Option X
+join_options None = None
+join_options (Some o) = o
 
 -- the bindings of the context of a number, counted from 1, where it is live
 abbrev pub bindings_in : List (Option Bindings) → ℕ → Option Bindings
-bindings_in contexts n = cond (nat_lt 0 n) (joined (slice_get contexts (n - 1))) None
+bindings_in contexts n = cond (nat_lt 0 n) (join_options (slice_get contexts (n - 1))) None
 
 abbrev pub bindings_of : Store → ℕ → Option Bindings
 bindings_of s n = bindings_in s.contexts n
@@ -84,7 +84,7 @@ pub record AreCounted (contexts : List (Option Bindings)) (count changed : ℕ) 
   pub few_contexts : length contexts - 1 ≤ most_contexts
 
 -- the parts of a store that is kept
-pub record IsKept (home : Address) (contexts : List (Option Bindings))
+pub record IsValidStore (home : Address) (contexts : List (Option Bindings))
     (count changed : ℕ) : Type 0 where
   pub address : IsAddress home
   pub counted : AreCounted contexts count changed

@@ -8,7 +8,7 @@ use Rattle.td_names.specs.declared.act.NameRefusal.TheVariants.{ImpLimit}
 use Rattle.td_names.specs.declared.component.Bound.{Bound}
 use Rattle.td_names.specs.declared.component.NameComponent.{NameComponent}
 use Rattle.td_names.specs.Limits.{name_fits}
-use Rattle.td_names.specs.References.{led_to}
+use Rattle.td_names.specs.References.{context_of_reference}
 use Rattle.td_names.specs.Stores.{Store, bound_in, is_live}
 
 -- the reasons of NotFound
@@ -31,7 +31,7 @@ if_live s (Some n) = cond (is_live s n) (Some n) None
 
 -- the live context here that a binding leads to
 abbrev pub next_context : Store → Bound → Option ℕ
-next_context s b = if_live s (led_to s.home b.object)
+next_context s b = if_live s (context_of_reference s.home b.object)
 
 abbrev pub through_context : Option ℕ → Bound → List NameComponent → (ℕ → Result ℕ NameAnswer)
     → Result ℕ NameAnswer

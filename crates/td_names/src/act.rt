@@ -6,7 +6,7 @@ ghost use Rattle.td_names.specs.Changing.{is_change, makes_context};
 use crate::component::{NameBinding, NameComponent};
 use std::alloc::Global;
 use td_cdr::{List, Memory, Twin, copy_two};
-use td_codes::Ior;
+use td_typecode::Ior;
 
 /// A call of a naming context (OMG's Naming Service, interface CosNaming::NamingContext).
 #[derive(Drop)]

@@ -2,12 +2,13 @@
 
 ghost use Rattle.std.specs.Prelude.{◌≡◌, IfOk};
 ghost use Rattle.td_cdr.specs.Text.{HasNoNul};
-ghost use Rattle.td_names.specs.References.{context_id, context_key, context_number, led_to, number_at, reference_of};
+ghost use Rattle.td_names.specs.References.{context_id, context_key, context_number, context_of_reference, number_at};
+ghost use Rattle.td_names.specs.References.{reference_of};
 
 use std::alloc::Global;
 use td_cdr::{Memory, Octets, Text};
-use td_codes::Ior;
 use td_ior::{Iiop, IorFault, iiop_of, make_ior, number_up_to};
+use td_typecode::Ior;
 
 /// Where a server listens, as its references tell it.
 pub struct Address {
@@ -51,9 +52,9 @@ pub fn context_number(key: &[u8]) -> Option<u32>
 ///
 /// # Errors
 ///
-/// `Memory` for want of memory alone.
+/// `Memory` only when out of memory.
 pub fn led_to(alloc: Global, home: &Address, reference: &Ior) -> Result<Option<u32>, Memory>
-    ensures { IfOk result (λ number. number ≡ led_to home.now reference.now) }
+    ensures { IfOk result (λ number. number ≡ context_of_reference home.now reference.now) }
 {
     match iiop_of(alloc, reference) {
         Ok(profile) => Ok(number_at(home, &profile)),
@@ -78,7 +79,7 @@ const IIOP_MINOR: u8 = 0;
 ///
 /// # Errors
 ///
-/// `Memory` for want of memory, or where its profile would come to 2^32 octets.
+/// `Memory` when out of memory, or where its profile would come to 2^32 octets.
 pub fn context_reference(alloc: Global, home: &Address, number: u32) -> Result<Ior, Memory>
     requires { HasNoNul home.now.host }
     ensures { IfOk result (λ reference. reference ≡ reference_of home.now number) }

@@ -11,14 +11,14 @@ use crate::store::NameStore;
 use crate::walking::{last_component, not_found_last};
 use std::alloc::Global;
 use td_cdr::{List, Memory};
-use td_codes::Ior;
+use td_typecode::Ior;
 
 impl NameStore {
     /// Binds under a name that isn't bound.
     ///
     /// # Errors
     ///
-    /// `Memory` for want of memory alone; nothing was done then.
+    /// `Memory` only when out of memory; nothing was done then.
     pub(crate) fn bind(
         &mut self,
         alloc: Global,
@@ -64,7 +64,7 @@ impl NameStore {
     ///
     /// # Errors
     ///
-    /// `Memory` for want of memory alone; nothing was done then.
+    /// `Memory` only when out of memory; nothing was done then.
     pub(crate) fn rebind(
         &mut self,
         alloc: Global,
@@ -121,7 +121,7 @@ impl NameStore {
     ///
     /// # Errors
     ///
-    /// `Memory` for want of memory alone; nothing was done then.
+    /// `Memory` only when out of memory; nothing was done then.
     pub(crate) fn unbind(
         &mut self,
         alloc: Global,

@@ -4,7 +4,7 @@ ghost use Rattle.std.specs.Prelude.{◌≡◌, ◌+◌, [], length, map, take, I
 ghost use Rattle.std.specs.Prelude.{if◌then◌else◌, option_copied};
 ghost use Rattle.std.specs.Map.{lookup, remove_entry};
 ghost use Rattle.indexmap.specs.IndexMap.{insert_entry};
-ghost use Rattle.td_names.specs.Applying.{told};
+ghost use Rattle.td_names.specs.Applying.{binding_of};
 ghost use Rattle.td_names.specs.Stores.{same_component};
 
 use crate::component::{Bound, NameBinding, NameComponent};
@@ -66,7 +66,7 @@ impl Bindings {
     ///
     /// # Errors
     ///
-    /// `Memory` for want of memory alone; the bindings are then as before.
+    /// `Memory` only when out of memory; the bindings are then as before.
     pub(crate) fn set(&mut self, component: NameComponent, bound: Bound) -> Result<bool, Memory>
         ensures ok { OnOk result (self.new ≡ insert_entry same_component self.old component bound) }
         ensures old { IfOk result (λ b. b
@@ -94,9 +94,9 @@ impl Bindings {
     ///
     /// # Errors
     ///
-    /// `Memory` for want of memory alone.
+    /// `Memory` only when out of memory.
     pub(crate) fn list(&self, alloc: Global) -> Result<List<NameBinding>, Memory>
-        ensures { IfOk result (λ list. list ≡ map told self.now) }
+        ensures { IfOk result (λ list. list ≡ map binding_of self.now) }
     {
         let mut list = List::with_room(alloc, self.named.len())?;
         for i in 0..self.named.len() {

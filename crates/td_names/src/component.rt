@@ -9,7 +9,7 @@ ghost use Rattle.td_names.specs.Stores.{same_component};
 use std::alloc::Global;
 use std::hash::{Hash, Hasher};
 use td_cdr::{Memory, Text, Twin, copy_two};
-use td_codes::Ior;
+use td_typecode::Ior;
 
 /// One component of a name (OMG's Naming Service, CosNaming::NameComponent). Two are the same where both texts are,
 /// byte by byte.

@@ -1,7 +1,7 @@
 //! Calls that make and destroy contexts.
 
 ghost use Rattle.std.specs.Prelude.{◌≡◌, IfOk, OnErr, true};
-ghost use Rattle.td_names.specs.Applying.{at_place, context_bound_anew, destroyed, fresh_context, next_reference};
+ghost use Rattle.td_names.specs.Applying.{at_place, context_bound_anew, destroy_context, fresh_context, next_reference};
 ghost use Rattle.td_names.specs.Applying.{or_none};
 ghost use Rattle.td_names.specs.Stores.{bindings_of, bound_in, contexts_full, is_live};
 ghost use Rattle.td_names.specs.Walking.{last_of, place};
@@ -15,7 +15,7 @@ use crate::store::NameStore;
 use crate::walking::last_component;
 use std::alloc::Global;
 use td_cdr::{List, Memory, Twin};
-use td_codes::Ior;
+use td_typecode::Ior;
 
 /// The number of the root.
 const ROOT: u32 = 1;
@@ -25,7 +25,7 @@ impl NameStore {
     ///
     /// # Errors
     ///
-    /// `Memory` for want of memory alone; nothing was done then.
+    /// `Memory` only when out of memory; nothing was done then.
     pub(crate) fn new_context(&mut self, alloc: Global) -> Result<NameAnswer, Memory>
         ensures ok { IfOk result (λ r. (self.new, r) ≡ fresh_context self.old) }
         ensures err { OnErr result (self.new ≡ self.old) }
@@ -43,7 +43,7 @@ impl NameStore {
     ///
     /// # Errors
     ///
-    /// `Memory` for want of memory alone.
+    /// `Memory` only when out of memory.
     fn next_reference(&self, alloc: Global) -> Result<Ior, Memory>
         requires { contexts_full self.now ≡ false }
         ensures { IfOk result (λ reference. reference ≡ next_reference self.now) }
@@ -56,7 +56,7 @@ impl NameStore {
     ///
     /// # Errors
     ///
-    /// `Memory` for want of memory alone; nothing was done then.
+    /// `Memory` only when out of memory; nothing was done then.
     pub(crate) fn bind_new_context(
         &mut self,
         alloc: Global,
@@ -103,7 +103,7 @@ impl NameStore {
     pub(crate) fn destroy(&mut self, context: u32) -> NameAnswer
         requires { is_live self.old context ≡ true }
         ensures { (self.new, result)
-            ≡ destroyed self.old context (or_none (bindings_of self.old context)) }
+            ≡ destroy_context self.old context (or_none (bindings_of self.old context)) }
     {
         if context == ROOT {
             return NameAnswer::System(NameRefusal::NoImplement);

@@ -13,14 +13,14 @@ use crate::component::{Bound, NameComponent};
 use crate::store::NameStore;
 use std::alloc::Global;
 use td_cdr::Memory;
-use td_codes::Ior;
+use td_typecode::Ior;
 
 impl NameStore {
     /// Binds in a live context under a component, in its place or behind the others.
     ///
     /// # Errors
     ///
-    /// `Memory` for want of memory alone; nothing was done then.
+    /// `Memory` only when out of memory; nothing was done then.
     pub(crate) fn set(
         &mut self,
         context: u32,
@@ -45,7 +45,7 @@ impl NameStore {
     ///
     /// # Errors
     ///
-    /// `Memory` for want of memory alone; nothing was done then.
+    /// `Memory` only when out of memory; nothing was done then.
     pub(crate) fn set_new(
         &mut self,
         alloc: Global,
@@ -91,7 +91,7 @@ impl NameStore {
 ///
 /// # Errors
 ///
-/// `Memory` for want of memory alone; nothing was done then.
+/// `Memory` only when out of memory; nothing was done then.
 fn bind_in(
     context: &mut Option<Bindings>,
     component: NameComponent,

@@ -1,7 +1,7 @@
 //! Calls that change nothing: resolve and list.
 
 ghost use Rattle.std.specs.Prelude.{◌≡◌, IfOk, true};
-ghost use Rattle.td_names.specs.Applying.{at_place, listed, or_none, resolved};
+ghost use Rattle.td_names.specs.Applying.{at_place, list_bindings, or_none, resolve_component};
 ghost use Rattle.td_names.specs.Stores.{bindings_of, bound_in, is_live};
 ghost use Rattle.td_names.specs.Walking.{last_of, place};
 
@@ -17,7 +17,7 @@ impl NameStore {
     ///
     /// # Errors
     ///
-    /// `Memory` for want of memory alone.
+    /// `Memory` only when out of memory.
     pub(crate) fn resolve(
         &self,
         alloc: Global,
@@ -26,7 +26,7 @@ impl NameStore {
     ) -> Result<NameAnswer, Memory>
         requires { is_live self.now context ≡ true }
         ensures { IfOk result (λ r. (self.now, r) ≡ at_place self.now (place self.now context name)
-            (λ d. resolved self.now (last_of name) (bound_in self.now d (last_of name)))) }
+            (λ d. resolve_component self.now (last_of name) (bound_in self.now d (last_of name)))) }
     {
         match self.place(alloc, context, name.as_slice())? {
             Err(refusal) => Ok(refusal),
@@ -41,7 +41,7 @@ impl NameStore {
         last: NameComponent,
     ) -> Result<NameAnswer, Memory>
         ensures { IfOk result (λ r. (self.now, r)
-            ≡ resolved self.now last (bound_in self.now place last)) }
+            ≡ resolve_component self.now last (bound_in self.now place last)) }
     {
         match self.bound(place, &last) {
             Some(bound) => {
@@ -56,10 +56,10 @@ impl NameStore {
     ///
     /// # Errors
     ///
-    /// `Memory` for want of memory alone.
+    /// `Memory` only when out of memory.
     pub(crate) fn list(&self, alloc: Global, context: u32) -> Result<NameAnswer, Memory>
         requires { is_live self.now context ≡ true }
-        ensures { IfOk result (λ r. r ≡ listed (or_none (bindings_of self.now context))) }
+        ensures { IfOk result (λ r. r ≡ list_bindings (or_none (bindings_of self.now context))) }
     {
         match self.bindings_of(context) {
             Some(bindings) => {

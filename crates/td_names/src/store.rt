@@ -2,7 +2,7 @@
 
 ghost use Rattle.std.specs.Prelude.{◌≡◌, ◌≤◌, ◌+◌, length, IfOk, OnErr, option_copied};
 ghost use Rattle.td_cdr.specs.Text.{HasNoNul};
-ghost use Rattle.td_names.specs.Applying.{Applies};
+ghost use Rattle.td_names.specs.Applying.{AppliesCall};
 ghost use Rattle.td_names.specs.Limits.{most_contexts};
 ghost use Rattle.td_names.specs.References.{IsAddress};
 ghost use Rattle.td_names.specs.Stores.{bindings_full, bindings_of, bound_in, changes_full, contexts_full, is_live};
@@ -43,7 +43,7 @@ impl Drop for NameStore {
 }
 
 impl Model for NameStore {
-    ghost use Rattle.td_names.specs.Stores.{Store, IsKept};
+    ghost use Rattle.td_names.specs.Stores.{Store, IsValidStore};
 
     ghost Value = { Store };
 
@@ -53,7 +53,7 @@ impl Model for NameStore {
       changes = n.changes;
     } };
 
-    ghost invariant = { λ n. IsKept n.home n.contexts.items n.bindings n.changes };
+    ghost invariant = { λ n. IsValidStore n.home n.contexts.items n.bindings n.changes };
 }
 
 impl NameStore {
@@ -62,7 +62,7 @@ impl NameStore {
     ///
     /// # Errors
     ///
-    /// `Memory` for want of memory alone.
+    /// `Memory` only when out of memory.
     pub fn new(alloc: Global, host: Text, port: u16) -> Result<NameStore, Memory>
         requires plain { HasNoNul host }
         requires short { length host ≤ 1000 }
@@ -112,9 +112,9 @@ impl NameStore {
     ///
     /// # Errors
     ///
-    /// `Memory` for want of memory alone; nothing was done then.
+    /// `Memory` only when out of memory; nothing was done then.
     pub fn act(&mut self, alloc: Global, context: u32, act: NameAct) -> Result<NameAnswer, Memory>
-        ensures ok { IfOk result (λ r. Applies self.old context act r self.new) }
+        ensures ok { IfOk result (λ r. AppliesCall self.old context act r self.new) }
         ensures err { OnErr result (self.new ≡ self.old) }
     {
         if !self.live(context) {

@@ -19,7 +19,7 @@ impl NameStore {
     ///
     /// # Errors
     ///
-    /// `Memory` for want of memory alone.
+    /// `Memory` only when out of memory.
     pub(crate) fn place(
         &self,
         alloc: Global,
@@ -41,7 +41,7 @@ impl NameStore {
     ///
     /// # Errors
     ///
-    /// `Memory` for want of memory alone.
+    /// `Memory` only when out of memory.
     fn holder(
         &self,
         alloc: Global,
@@ -73,7 +73,7 @@ impl NameStore {
     ///
     /// # Errors
     ///
-    /// `Memory` for want of memory alone.
+    /// `Memory` only when out of memory.
     fn next_context(&self, alloc: Global, bound: &Bound) -> Result<Option<u32>, Memory>
         ensures { IfOk result (λ next. next ≡ next_context self.now bound.now) }
     {
@@ -110,7 +110,7 @@ pub(crate) fn last_component(mut name: List<NameComponent>) -> NameComponent
 ///
 /// # Errors
 ///
-/// `Memory` for want of memory alone.
+/// `Memory` only when out of memory.
 fn not_found(alloc: Global, why: u32, rest: &[NameComponent]) -> Result<NameAnswer, Memory>
     ensures { IfOk result (λ r. r ≡ not_found why rest.now) }
 {
@@ -122,7 +122,7 @@ fn not_found(alloc: Global, why: u32, rest: &[NameComponent]) -> Result<NameAnsw
 ///
 /// # Errors
 ///
-/// `Memory` for want of memory alone.
+/// `Memory` only when out of memory.
 pub(crate) fn not_found_last(
     alloc: Global,
     why: u32,
@@ -139,7 +139,7 @@ pub(crate) fn not_found_last(
 ///
 /// # Errors
 ///
-/// `Memory` for want of memory alone.
+/// `Memory` only when out of memory.
 fn cannot_proceed(
     alloc: Global,
     bound: &Bound,
@@ -156,7 +156,7 @@ fn cannot_proceed(
 ///
 /// # Errors
 ///
-/// `Memory` for want of memory alone.
+/// `Memory` only when out of memory.
 fn copies(alloc: Global, components: &[NameComponent]) -> Result<List<NameComponent>, Memory>
     ensures { IfOk result (λ copies. copies ≡ components.now) }
 {

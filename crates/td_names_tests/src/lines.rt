@@ -38,9 +38,9 @@ fn first_wrong(alloc: Global, store: &mut NameStore, lines: &'static str) -> &'s
 fn is_so(alloc: Global, store: &mut NameStore, line: &str) -> bool {
     let (asked, expected) = line.split_once(" =").unwrap_or((line, ""));
     let (word, rest) = cut(asked);
-    let mut told = Vec::new(alloc);
-    match perform(alloc, store, word, rest, &mut told) {
-        Ok(()) => told.as_slice() == expected.as_bytes(),
+    let mut content = Vec::new(alloc);
+    match perform(alloc, store, word, rest, &mut content) {
+        Ok(()) => content.as_slice() == expected.as_bytes(),
         Err(_) => false,
     }
 }
@@ -50,19 +50,19 @@ fn perform(
     store: &mut NameStore,
     word: &str,
     rest: &str,
-    told: &mut Vec<u8>,
+    content: &mut Vec<u8>,
 ) -> Result<(), Memory> {
     match word {
-        "changes" => put_number(alloc, told, store.changes()),
+        "changes" => put_number(alloc, content, store.changes()),
         "live" => put(
-            told,
+            content,
             if store.live(ulong_of(rest)) {
                 "yes"
             } else {
                 "no"
             },
         ),
-        number => call(alloc, store, ulong_of(number), rest, told),
+        number => call(alloc, store, ulong_of(number), rest, content),
     }
 }
 
@@ -71,10 +71,10 @@ fn call(
     store: &mut NameStore,
     context: u32,
     words: &str,
-    told: &mut Vec<u8>,
+    content: &mut Vec<u8>,
 ) -> Result<(), Memory> {
     let (word, rest) = cut(words);
     let act = act(alloc, word, rest)?;
     let answer = store.act(alloc, context, act)?;
-    put_answer(alloc, told, &answer)
+    put_answer(alloc, content, &answer)
 }

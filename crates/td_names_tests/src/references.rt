@@ -6,8 +6,8 @@ ghost use Rattle.td_cdr.specs.Text.{HasNoNul};
 use crate::words::{cut, object, ulong_of};
 use std::alloc::Global;
 use td_cdr::{List, Memory, Text, Twin};
-use td_codes::{Ior, Profile};
 use td_names::{Address, context_number, context_reference, led_to};
+use td_typecode::{Ior, Profile};
 
 /// Keys, with the number of the context; 0 where they are the key of none.
 const KEYS: &str = "N/1 1

@@ -2,9 +2,9 @@
 
 use std::alloc::Global;
 use td_cdr::{List, Memory, Text};
-use td_codes::Ior;
 use td_ior::{make_ior, nil};
 use td_names::{NameAct, NameComponent};
+use td_typecode::Ior;
 
 /// The id of a reference that isn't the server's own.
 pub(crate) const OUTSIDE_ID: &[u8] = b"IDL:X:1.0";

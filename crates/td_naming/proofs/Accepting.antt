@@ -3,9 +3,9 @@ use Rattle.std.proofs.Common.{◌≡◌, ℕ, ◌+◌, Bool, true, false, ◌&&�
 use Rattle.std.proofs.Common.{refl, ap, sym, ◌∙◌, true≢false}
 use Rattle.td_names.proofs.Changing.{changes_or_keeps}
 use Rattle.td_names.proofs.Refusals.{changes_once}
-use Rattle.td_names.specs.Applying.{applied}
-use Rattle.td_names.specs.Changing.{Changes, change_reply, is_change}
-use Rattle.td_names.specs.Changing.Changes.{refused, other, accepted}
+use Rattle.td_names.specs.Applying.{apply_act}
+use Rattle.td_names.specs.Changing.{ChangesStore, change_reply, is_change}
+use Rattle.td_names.specs.Changing.ChangesStore.{refused, other, accepted}
 use Rattle.td_names.specs.Refusing.{is_refusal}
 use Rattle.td_names.specs.Stores.{Store}
 use Rattle.td_names.specs.declared.act.NameAct.{NameAct}
@@ -45,15 +45,15 @@ replied s act.List = refl
 
 -- the call leaves this, and is answered so
 abbrev left : Store → ℕ → NameAct → Store
-left s c a = (applied s c a).0
+left s c a = (apply_act s c a).0
 
-abbrev told : Store → ℕ → NameAct → NameAnswer
-told s c a = (applied s c a).1
+abbrev content : Store → ℕ → NameAct → NameAnswer
+content s c a = (apply_act s c a).1
 
-changes : (s : Store) (c : ℕ) (a : NameAct) → Changes s a (told s c a) (left s c a)
-changes s c a = changes_or_keeps s (left s c a) c a (told s c a) refl
+changes : (s : Store) (c : ℕ) (a : NameAct) → ChangesStore s a (content s c a) (left s c a)
+changes s c a = changes_or_keeps s (left s c a) c a (content s c a) refl
 
-accepted_from : (s t : Store) (c : ℕ) (a : NameAct) (r : NameAnswer) → Changes s a r t → told s c a ≡ r
+accepted_from : (s t : Store) (c : ℕ) (a : NameAct) (r : NameAnswer) → ChangesStore s a r t → content s c a ≡ r
     → is_accepted a r ≡ true → IsAccepted s (change_at s c a)
 accepted_from s t c a r (refused h e) is flag =
     absurd (true≢false (sym flag ∙ refusal_unaccepted a r h))
@@ -63,22 +63,22 @@ accepted_from s t c a r (accepted h e more) is flag = record {
   answer = is ∙ e ∙ ap (λ (x : NameReply). Done x) (sym (replied s a));
 }
 
-pub accepted_there : (s : Store) (c : ℕ) (a : NameAct) → is_accepted a (told s c a) ≡ true
+pub accepted_there : (s : Store) (c : ℕ) (a : NameAct) → is_accepted a (content s c a) ≡ true
     → IsAccepted s (change_at s c a)
-accepted_there s c a flag = accepted_from s (left s c a) c a (told s c a) (changes s c a) refl flag
+accepted_there s c a flag = accepted_from s (left s c a) c a (content s c a) (changes s c a) refl flag
 
-kept_from : (s t : Store) (a : NameAct) (r : NameAnswer) → Changes s a r t → is_accepted a r ≡ false → t ≡ s
+kept_from : (s t : Store) (a : NameAct) (r : NameAnswer) → ChangesStore s a r t → is_accepted a r ≡ false → t ≡ s
 kept_from s t a r (refused h e) flag = e
 kept_from s t a r (other h e) flag = e
 kept_from s t a r (accepted h e more) flag =
     let so : is_accepted a r ≡ true = rw (h, e) refl in
     absurd (true≢false (sym so ∙ flag))
 
-pub kept_there : (s : Store) (c : ℕ) (a : NameAct) → is_accepted a (told s c a) ≡ false → left s c a ≡ s
-kept_there s c a flag = kept_from s (left s c a) a (told s c a) (changes s c a) flag
+pub kept_there : (s : Store) (c : ℕ) (a : NameAct) → is_accepted a (content s c a) ≡ false → left s c a ≡ s
+kept_there s c a flag = kept_from s (left s c a) a (content s c a) (changes s c a) flag
 
 pub home_there : (s : Store) (c : ℕ) (a : NameAct) → (left s c a).home ≡ s.home
-home_there s c a = (changes_once s (left s c a) c a (told s c a) refl).0
+home_there s c a = (changes_once s (left s c a) c a (content s c a) refl).0
 
 -- ---- histories
 

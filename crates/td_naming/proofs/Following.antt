@@ -3,9 +3,9 @@ use Rattle.std.proofs.Common.{◌≡◌, ℕ, ◌+◌, ◌≤◌, Bool, true, fa
 use Rattle.std.proofs.Common.{refl, ap, sym, ◌∙◌, arith, subst}
 use Rattle.std.proofs.lemmas.Bool.{cases_Bool}
 use Rattle.std.proofs.lemmas.List.{length-append}
-use Rattle.td_codes.specs.declared.reference.Ior.{Ior}
+use Rattle.td_typecode.specs.declared.reference.Ior.{Ior}
 use Rattle.td_names.proofs.Reached.{resolved_reaches, reached_resolves}
-use Rattle.td_names.specs.Applying.{Applies, applied}
+use Rattle.td_names.specs.Applying.{AppliesCall, apply_act}
 use Rattle.td_names.specs.Stores.{Store, start}
 use Rattle.td_names.specs.declared.act.NameAct.{NameAct}
 use Rattle.td_names.specs.declared.act.NameAct.TheVariants as act
@@ -83,21 +83,21 @@ module _ (others : List NameChange → Type 0) where
 
   -- a name that is resolved leaves the store
   resolve_keeps : (s : Store) (c : ℕ) (name : List NameComponent) (object : Ior)
-      → (applied s c (act.Resolve name)).1 ≡ Done (Object object) → Applies s c (act.Resolve name) (Done (Object object)) s
+      → (apply_act s c (act.Resolve name)).1 ≡ Done (Object object) → AppliesCall s c (act.Resolve name) (Done (Object object)) s
   resolve_keeps s c name object is =
-      let kept : (applied s c (act.Resolve name)).0 ≡ s = kept_there s c (act.Resolve name) refl in
-      let pair : ((applied s c (act.Resolve name)).0, (applied s c (act.Resolve name)).1) ≡ (s, Done (Object object)) =
+      let kept : (apply_act s c (act.Resolve name)).0 ≡ s = kept_there s c (act.Resolve name) refl in
+      let pair : ((apply_act s c (act.Resolve name)).0, (apply_act s c (act.Resolve name)).1) ≡ (s, Done (Object object)) =
       rw (kept, is) refl in
       sym pair
 
   pub resolves : ResolvesByReach others
   resolves v u c name r object h fits live =
       let is : u ≡ h.seen = unowned h.seen u c (act.Resolve name) r h.after refl in
-      let told : r ≡ (applied (store_seen u) c (act.Resolve name)).1 =
+      let content : r ≡ (apply_act (store_seen u) c (act.Resolve name)).1 =
       h.answer ∙ ap (λ (x : View). answer_at x c (act.Resolve name)) (sym is) in (
         λ done. resolved_reaches (store_seen u) c name object fits live
-            (resolve_keeps (store_seen u) c name object (sym told ∙ done)),
-        λ reach. told
+            (resolve_keeps (store_seen u) c name object (sym content ∙ done)),
+        λ reach. content
             ∙ sym (ap (λ (p : Store × NameAnswer). p.1)
             (reached_resolves (store_seen u) c name object fits live reach)),
       )

@@ -3,7 +3,7 @@ use Rattle.std.proofs.Common.{◌≡◌, ℕ, suc, ◌+◌, Bool, true, false, c
 use Rattle.std.proofs.Common.{refl, ap, sym, ◌∙◌, arith, subst, Result, Ok, Err}
 use Rattle.std.proofs.lemmas.List.{append-nil}
 use Rattle.std.specs.Prelude.{IfOk, OnErr}
-use Rattle.td_names.specs.Applying.{applied}
+use Rattle.td_names.specs.Applying.{apply_act}
 use Rattle.td_names.specs.Changing.{is_change}
 use Rattle.td_names.specs.Refusing.{is_refusal}
 use Rattle.td_names.specs.Stores.{Store, start}
@@ -11,10 +11,10 @@ use Rattle.td_names.specs.declared.act.NameAct.{NameAct}
 use Rattle.td_names.specs.declared.act.NameAnswer.{NameAnswer}
 use Rattle.td_names.specs.declared.address.Address.{Address}
 use Rattle.td_naming.proofs.Accepting.{accepted_there, after_more, home_there, kept_there, legal_more}
-use Rattle.td_naming.specs.Alone.{nothing, places, solo_view}
+use Rattle.td_naming.specs.Alone.{no_changes, places, solo_view}
 use Rattle.td_naming.specs.Histories.{IsAccepted, Legal, Records, Remembers, after_change, change_at}
-use Rattle.td_naming.specs.Histories.{Past, is_accepted, noted, past, store_after}
-use Rattle.td_naming.specs.Views.{Acts, Meanwhile, View, with_own}
+use Rattle.td_naming.specs.Histories.{Past, is_accepted, add_accepted, past, store_after}
+use Rattle.td_naming.specs.Views.{NamingActs, Meanwhile, View, with_own}
 use Rattle.td_naming.specs.declared.history.NameChange.{NameChange}
 
 one_more : (k : ℕ) (h : List NameChange) (e : NameChange)
@@ -26,7 +26,7 @@ one_more k (x ∷ xs) e =
     ∙ ap (λ (n : ℕ). places (k + 1) xs ++ n ∷ [])
     (let is : k + 1 + length xs ≡ k + suc (length xs) = omega arith in is))
 
-pub unchanged : (v : View) → Meanwhile nothing v v
+pub unchanged : (v : View) → Meanwhile no_changes v v
 unchanged v = record {
   between = [];
   may = refl;
@@ -40,10 +40,10 @@ unchanged v = record {
 
 module _ (s : Store) (h : List NameChange) (c : ℕ) (a : NameAct) (m : Remembers s h) where
   abbrev t : Store
-  t = (applied s c a).0
+  t = (apply_act s c a).0
 
   abbrev r : NameAnswer
-  r = (applied s c a).1
+  r = (apply_act s c a).1
 
   abbrev e : NameChange
   e = change_at s c a
@@ -63,7 +63,7 @@ module _ (s : Store) (h : List NameChange) (c : ℕ) (a : NameAct) (m : Remember
   }
   kept_by false flag = subst (λ (x : Store). Remembers x h) (sym (kept_there s c a flag)) m
 
-  pub kept : Remembers t (noted h s c a r)
+  pub kept : Remembers t (add_accepted h s c a r)
   kept = kept_by (is_accepted a r) refl
 
   -- ---- to one who alone calls it
@@ -88,13 +88,13 @@ module _ (s : Store) (h : List NameChange) (c : ℕ) (a : NameAct) (m : Remember
   after_by true = own_places (change_at (store_after s.home h) c a) same_change
   after_by false = refl
 
-  pub acts : Acts nothing before c a r (solo_view (past t.home (noted h s c a r)))
+  pub acts : NamingActs no_changes before c a r (solo_view (past t.home (add_accepted h s c a r)))
   acts = record {
     seen = before;
     meanwhile = unchanged before;
-    answer = ap (λ (x : Store). (applied x c a).1) m.store;
+    answer = ap (λ (x : Store). (apply_act x c a).1) m.store;
     after =
-        ap (λ (x : Address). solo_view (past x (noted h s c a r))) (home_there s c a)
+        ap (λ (x : Address). solo_view (past x (add_accepted h s c a r))) (home_there s c a)
         ∙ after_by (is_accepted a r);
   }
 
@@ -103,25 +103,25 @@ module _ (s : Store) (h : List NameChange) (c : ℕ) (a : NameAct) (m : Remember
 pub recorded_kept : (s t : Store) (h k : List NameChange) (c : ℕ) (a : NameAct) (r : NameAnswer) → Remembers s h
     → Records s h c a r t k → Remembers t k
 recorded_kept s t h k c a r m x =
-    let first : t ≡ (applied s c a).0 = ap (λ (p : Store × NameAnswer). p.0) x.applied in
-    let second : r ≡ (applied s c a).1 = ap (λ (p : Store × NameAnswer). p.1) x.applied in
+    let first : t ≡ (apply_act s c a).0 = ap (λ (p : Store × NameAnswer). p.0) x.applied in
+    let second : r ≡ (apply_act s c a).1 = ap (λ (p : Store × NameAnswer). p.1) x.applied in
     rw (x.noted, first, second) (kept s h c a m)
 
 pub recorded_acts : (s t : Store) (h k : List NameChange) (c : ℕ) (a : NameAct) (r : NameAnswer) → Remembers s h
-    → Records s h c a r t k → Acts nothing (solo_view (past s.home h)) c a r (solo_view (past t.home k))
+    → Records s h c a r t k → NamingActs no_changes (solo_view (past s.home h)) c a r (solo_view (past t.home k))
 recorded_acts s t h k c a r m x =
-    let first : t ≡ (applied s c a).0 = ap (λ (p : Store × NameAnswer). p.0) x.applied in
-    let second : r ≡ (applied s c a).1 = ap (λ (p : Store × NameAnswer). p.1) x.applied in
+    let first : t ≡ (apply_act s c a).0 = ap (λ (p : Store × NameAnswer). p.0) x.applied in
+    let second : r ≡ (apply_act s c a).1 = ap (λ (p : Store × NameAnswer). p.1) x.applied in
     rw (x.noted, first, second) (acts s h c a m)
 
 -- a call that is no change is recorded by nothing
 pub recorded_look : (s t : Store) (h : List NameChange) (c : ℕ) (a : NameAct) (r : NameAnswer) → is_change a ≡ false
-    → (t, r) ≡ applied s c a → Records s h c a r t h
+    → (t, r) ≡ apply_act s c a → Records s h c a r t h
 recorded_look s t h c a r is x = record { applied = x; noted = rw is refl }
 
 -- a change is recorded behind the others where it was done
 pub recorded_change : (s t : Store) (h k : List NameChange) (c : ℕ) (a : NameAct) (r : NameAnswer) (done : Bool)
-    → is_change a ≡ true → (t, r) ≡ applied s c a → done ≡ not (is_refusal r)
+    → is_change a ≡ true → (t, r) ≡ apply_act s c a → done ≡ not (is_refusal r)
     → k ≡ cond done (h ++ change_at s c a ∷ []) h → Records s h c a r t k
 recorded_change s t h k c a r done change x is behind =
     let same : is_accepted a r ≡ done = rw (change, is) refl in
@@ -143,7 +143,7 @@ module _ {E : Type 0} (s t : Store) (h k : List NameChange) (c : ℕ) (a : NameA
   result_kept (Err e) m ok err = rw (err.0, err.1) m
 
   pub result_acts : (r : Result NameAnswer E) → Remembers s h → IfOk r (λ x. Records s h c a x t k)
-      → IfOk r (λ x. Acts nothing (solo_view (past s.home h)) c a x (solo_view (past t.home k)))
+      → IfOk r (λ x. NamingActs no_changes (solo_view (past s.home h)) c a x (solo_view (past t.home k)))
   result_acts (Ok x) m ok = recorded_acts s t h k c a x m ok
   result_acts (Err e) m ok = tt
 
@@ -152,12 +152,12 @@ module _ {E : Type 0} (s t : Store) (h k : List NameChange) (c : ℕ) (a : NameA
   result_unchanged (Ok x) err = tt
   result_unchanged (Err e) err = rw (err.0, err.1) refl
 
-  pub result_look : (r : Result NameAnswer E) → is_change a ≡ false → k ≡ h → IfOk r (λ x. (t, x) ≡ applied s c a)
+  pub result_look : (r : Result NameAnswer E) → is_change a ≡ false → k ≡ h → IfOk r (λ x. (t, x) ≡ apply_act s c a)
       → IfOk r (λ x. Records s h c a x t k)
   result_look (Ok x) flag same is = rw same (recorded_look s t h c a x flag is)
   result_look (Err e) flag same is = tt
 
 pub meanwhile : {E : Type 0} (p q : Past) (r : Result NameAnswer E) → OnErr r (q ≡ p)
-    → OnErr r (Meanwhile nothing (solo_view p) (solo_view q))
+    → OnErr r (Meanwhile no_changes (solo_view p) (solo_view q))
 meanwhile p q (Ok x) err = tt
 meanwhile p q (Err e) err = rw err (unchanged (solo_view p))

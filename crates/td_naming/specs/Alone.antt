@@ -13,5 +13,5 @@ abbrev pub solo_view : Past → View
 solo_view p = record { home = p.home; history = p.history; own = places 0 p.history }
 
 -- others change nothing
-abbrev pub nothing : List NameChange → Type 0
-nothing between = between ≡ []
+abbrev pub no_changes : List NameChange → Type 0
+no_changes between = between ≡ []

@@ -1,6 +1,6 @@
 -- The history of a naming store: the changes that were accepted since it was the root alone, each with its reply.
 use Rattle.std.specs.Prelude.{◌≡◌, ℕ, Bool, true, cond, ◌&&◌, not, List, [], ◌∷◌, ◌++◌, Option, Some, None}
-use Rattle.td_names.specs.Applying.{applied, next_number}
+use Rattle.td_names.specs.Applying.{apply_act, next_number}
 use Rattle.td_names.specs.Changing.{is_change, makes_context}
 use Rattle.td_names.specs.References.{reference_of}
 use Rattle.td_names.specs.Refusing.{is_refusal}
@@ -33,13 +33,13 @@ abbrev pub is_accepted : NameAct → NameAnswer → Bool
 is_accepted a r = is_change a && not (is_refusal r)
 
 -- the history with the call, where it is an accepted change
-abbrev pub noted : List NameChange → Store → ℕ → NameAct → NameAnswer → List NameChange
-noted h s c a r = cond (is_accepted a r) (h ++ change_at s c a ∷ []) h
+abbrev pub add_accepted : List NameChange → Store → ℕ → NameAct → NameAnswer → List NameChange
+add_accepted h s c a r = cond (is_accepted a r) (h ++ change_at s c a ∷ []) h
 
 -- ---- the store behind a history
 
 abbrev pub after_change : Store → NameChange → Store
-after_change s e = (applied s e.context e.act).0
+after_change s e = (apply_act s e.context e.act).0
 
 abbrev pub after_all : Store → List NameChange → Store
 after_all s [] = s
@@ -53,7 +53,7 @@ store_after home history = after_all (start home) history
 -- the change is accepted at this store, and has its reply there
 pub record IsAccepted (s : Store) (e : NameChange) : Type 0 where
   pub change : is_change e.act ≡ true
-  pub answer : (applied s e.context e.act).1 ≡ Done (reply_of s.home e.made)
+  pub answer : (apply_act s e.context e.act).1 ≡ Done (reply_of s.home e.made)
 
 -- each change is accepted where those before it lead to
 abbrev pub LegalFrom : Store → List NameChange → Type 0
@@ -81,5 +81,5 @@ pub record Remembers (s : Store) (history : List NameChange) : Type 0 where
 -- a call of the store was answered so, and is noted where it is an accepted change
 pub record Records (s : Store) (h : List NameChange) (c : ℕ) (a : NameAct) (r : NameAnswer)
     (t : Store) (k : List NameChange) : Type 0 where
-  pub applied : (t, r) ≡ applied s c a
-  pub noted : k ≡ noted h s c a r
+  pub applied : (t, r) ≡ apply_act s c a
+  pub noted : k ≡ add_accepted h s c a r

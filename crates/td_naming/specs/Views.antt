@@ -1,7 +1,7 @@
 -- What naming contexts are to one who calls them, and what a call may make of it: what was seen of them, and what was
 -- done to them through this value.
 use Rattle.std.specs.Prelude.{◌≡◌, ℕ, Bool, cond, List, [], ◌∷◌, ◌++◌, length}
-use Rattle.td_names.specs.Applying.{applied}
+use Rattle.td_names.specs.Applying.{apply_act}
 use Rattle.td_names.specs.Stores.{Store, is_live}
 use Rattle.td_names.specs.declared.act.NameAct.{NameAct}
 use Rattle.td_names.specs.declared.act.NameAnswer.{NameAnswer}
@@ -26,7 +26,7 @@ after_others v between = record v { history = v.history ++ between }
 
 -- what a call of a context is answered with
 abbrev pub answer_at : View → ℕ → NameAct → NameAnswer
-answer_at v c a = (applied (store_seen v) c a).1
+answer_at v c a = (apply_act (store_seen v) c a).1
 
 -- with one's own change at the end
 abbrev pub with_own : View → NameChange → View
@@ -47,13 +47,13 @@ module _ (others : List NameChange → Type 0) where
     pub is : seen ≡ after_others v between
 
   -- The answer is the call's at what is seen then, and an accepted change stands at the end.
-  pub record Acts (v : View) (c : ℕ) (a : NameAct) (r : NameAnswer) (u : View) : Type 0 where
+  pub record NamingActs (v : View) (c : ℕ) (a : NameAct) (r : NameAnswer) (u : View) : Type 0 where
     pub seen : View
     pub meanwhile : Meanwhile v seen
     pub answer : r ≡ answer_at seen c a
     pub after : u ≡ after_own seen c a r
 
   -- whether the context is live at what is seen then
-  pub record Looks (v : View) (c : ℕ) (live : Bool) (u : View) : Type 0 where
+  pub record LooksAtContext (v : View) (c : ℕ) (live : Bool) (u : View) : Type 0 where
     pub meanwhile : Meanwhile v u
-    pub told : live ≡ is_live (store_seen u) c
+    pub content : live ≡ is_live (store_seen u) c

@@ -3,7 +3,7 @@
 ghost use Rattle.std.specs.Prelude.{◌≡◌, List, length, IfOk, OnErr};
 ghost use Rattle.td_names.specs.References.{IsAddress};
 ghost use Rattle.td_naming.specs.Histories.{Legal};
-ghost use Rattle.td_naming.specs.Views.{Acts, Looks, Meanwhile, View};
+ghost use Rattle.td_naming.specs.Views.{NamingActs, LooksAtContext, Meanwhile, View};
 ghost use Rattle.td_naming.specs.declared.history.NameChange.{NameChange};
 
 use std::alloc::Global;
@@ -26,16 +26,17 @@ pub trait Names {
     ///
     /// # Errors
     ///
-    /// `Memory` for want of memory alone; nothing was done then.
+    /// `Memory` only when out of memory; nothing was done then.
     fn act(&mut self, alloc: Global, context: u32, act: NameAct) -> Result<NameAnswer, Memory>
         ensures same { same self.old self.new }
-        ensures ok { IfOk result (λ r. Acts others (view self.old) context act r (view self.new)) }
+        ensures ok { IfOk result (λ r. NamingActs others (view self.old) context act r
+            (view self.new)) }
         ensures err { OnErr result (Meanwhile others (view self.old) (view self.new)) };
 
     /// Whether the context of a number is live. Takes no memory.
     fn live(&mut self, context: u32) -> bool
         ensures same { same self.old self.new }
-        ensures live { Looks others (view self.old) context result (view self.new) };
+        ensures live { LooksAtContext others (view self.old) context result (view self.new) };
 
     /// How many changes are seen. Takes no memory.
     fn point(&self) -> u64

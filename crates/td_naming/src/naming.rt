@@ -6,9 +6,9 @@ ghost use Rattle.td_names.specs.Changing.{is_change};
 ghost use Rattle.td_names.specs.References.{IsAddress};
 ghost use Rattle.td_names.specs.Refusing.{is_refusal};
 ghost use Rattle.td_names.specs.Stores.{is_live};
-ghost use Rattle.td_naming.specs.Alone.{nothing, solo_view};
+ghost use Rattle.td_naming.specs.Alone.{no_changes, solo_view};
 ghost use Rattle.td_naming.specs.Histories.{Legal, Records, change_at, past, store_after};
-ghost use Rattle.td_naming.specs.Views.{Acts};
+ghost use Rattle.td_naming.specs.Views.{NamingActs};
 
 use crate::history::NameChange;
 use crate::names::Names;
@@ -49,7 +49,7 @@ impl Naming {
     ///
     /// # Errors
     ///
-    /// `Memory` for want of memory alone.
+    /// `Memory` only when out of memory.
     pub fn new(alloc: Global, host: Text, port: u16) -> Result<Naming, Memory>
         requires plain { HasNoNul host }
         requires short { length host ≤ 1000 }
@@ -73,10 +73,10 @@ impl Naming {
     ///
     /// # Errors
     ///
-    /// `Memory` for want of memory alone; nothing was done then.
+    /// `Memory` only when out of memory; nothing was done then.
     pub fn act(&mut self, alloc: Global, context: u32, act: NameAct) -> Result<NameAnswer, Memory>
         ensures ok { IfOk result
-            (λ r. Acts nothing (solo_view self.old) context act r (solo_view self.new)) }
+            (λ r. NamingActs no_changes (solo_view self.old) context act r (solo_view self.new)) }
         ensures err { OnErr result (self.new ≡ self.old) }
     {
         let Naming { store, history } = self;
@@ -154,7 +154,7 @@ fn record_change(
 ///
 /// # Errors
 ///
-/// `Memory` for want of memory alone.
+/// `Memory` only when out of memory.
 fn change_at(
     alloc: Global,
     store: &NameStore,
@@ -186,7 +186,7 @@ fn is_done(answer: &NameAnswer) -> bool
 impl Names for Naming {
     ghost view = { λ n. solo_view n };
 
-    ghost others = { nothing };
+    ghost others = { no_changes };
 
     ghost same = { λ _ _. Unit {0} };
 

@@ -11,7 +11,7 @@ use td_naming::Names;
 pub(crate) fn is_so<N: Names>(alloc: Global, names: &mut N, line: &str) -> bool {
     let (asked, expected) = line.split_once(" = ").unwrap_or((line, ""));
     match call(alloc, names, asked) {
-        Ok(told) => told.as_slice() == expected.as_bytes(),
+        Ok(content) => content.as_slice() == expected.as_bytes(),
         Err(_) => false,
     }
 }
@@ -30,11 +30,11 @@ fn call<N: Names>(alloc: Global, names: &mut N, asked: &str) -> Result<Vec<u8>, 
         b" dead"
     };
     let point = names.point().to_string(alloc)?;
-    let mut told = Vec::from_slice(alloc, word.as_bytes())?;
-    told.push(b' ')?;
-    told.extend_from_slice(point.as_bytes())?;
-    told.extend_from_slice(live)?;
-    Ok(told)
+    let mut content = Vec::from_slice(alloc, word.as_bytes())?;
+    content.push(b' ')?;
+    content.extend_from_slice(point.as_bytes())?;
+    content.extend_from_slice(live)?;
+    Ok(content)
 }
 
 fn act(alloc: Global, word: &str, id: &str) -> Result<NameAct, Memory> {

@@ -64,31 +64,31 @@ fn is_home<N: Names>(names: &N) -> bool {
 }
 
 fn history_is_so(alloc: Global, history: &[NameChange]) -> Result<bool, Memory> {
-    let mut told = Vec::new(alloc);
+    let mut content = Vec::new(alloc);
     for change in history {
-        put_change(alloc, &mut told, change)?;
+        put_change(alloc, &mut content, change)?;
     }
-    Ok(told.as_slice() == HISTORY.as_bytes())
+    Ok(content.as_slice() == HISTORY.as_bytes())
 }
 
 /// A line of the history, behind those before it.
-fn put_change(alloc: Global, told: &mut Vec<u8>, change: &NameChange) -> Result<(), Memory> {
-    if !told.is_empty() {
-        told.push(b'\n')?;
+fn put_change(alloc: Global, content: &mut Vec<u8>, change: &NameChange) -> Result<(), Memory> {
+    if !content.is_empty() {
+        content.push(b'\n')?;
     }
-    put_number(alloc, told, change.context)?;
-    told.push(b' ')?;
-    told.extend_from_slice(word_of(&change.act).as_bytes())?;
+    put_number(alloc, content, change.context)?;
+    content.push(b' ')?;
+    content.extend_from_slice(word_of(&change.act).as_bytes())?;
     if let Some(made) = change.made {
-        told.push(b' ')?;
-        put_number(alloc, told, made)?;
+        content.push(b' ')?;
+        put_number(alloc, content, made)?;
     }
     Ok(())
 }
 
-fn put_number(alloc: Global, told: &mut Vec<u8>, number: u32) -> Result<(), Memory> {
+fn put_number(alloc: Global, content: &mut Vec<u8>, number: u32) -> Result<(), Memory> {
     let digits = number.to_string(alloc)?;
-    told.extend_from_slice(digits.as_bytes())?;
+    content.extend_from_slice(digits.as_bytes())?;
     Ok(())
 }
 

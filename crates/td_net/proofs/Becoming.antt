@@ -7,27 +7,29 @@ use Rattle.std.specs.Prelude.{Option, None, Some, Result, Ok, Err, OnOk, OnErr}
 use Rattle.std.specs.Option.{option_and_then}
 use Rattle.td_cdr.specs.declared.memory.Memory.{Memory}
 use Rattle.td_net.proofs.Counting.{counted, has-drawn}
-use Rattle.td_net.specs.Supplies.{IsTrimmed, Supplied, drawn_after, word_of, words_from}
-use Rattle.td_net.specs.Worlds.{Becomes, Closing, HasGroup, HasVisits, KeepsEnded, Moved, Settled, World, after}
-use Rattle.td_net.specs.Worlds.{answered, closed, drawn_by, ending, evaluating, frame_in, goes_on, inside, placed}
-use Rattle.td_net.specs.Worlds.{placed_by, sent, settle, settled, standing, takes, visit_at, visit_in, waiting}
+use Rattle.td_net.specs.Supplies.{IsTrimmed, WordSupply, drawn_after, word_of, words_from}
+use Rattle.td_net.specs.Worlds.{Becomes, Closing, HasGroup, HasVisits, KeepsEnded, Moved, VisitProgress, World, after}
+use Rattle.td_net.specs.Worlds.{visit_answer, end_call, drawn_by, ended_call, evaluating_call, frame_in, goes_on}
+use Rattle.td_net.specs.Worlds.{inside, place_visit}
+use Rattle.td_net.specs.Worlds.{placed_by, sent, settle, visit_progress, visit_state, takes, visit_at, visit_in}
+use Rattle.td_net.specs.Worlds.{waiting_call}
 use Rattle.td_net.specs.Worlds.{with_calls}
 use Rattle.td_net.specs.declared.call.Call.{Call}
 use Rattle.td_net.specs.declared.call.Stage.{Stage}
 use Rattle.td_net.specs.declared.call.Stage.TheVariants.{Sent, Running, Evaluating, Waiting, Ended}
-use Rattle.td_net.specs.declared.call.Step.{Step}
-use Rattle.td_net.specs.declared.settling.Pending.{Pending}
-use Rattle.td_net.specs.declared.settling.Pending.TheVariants as pending
+use Rattle.td_net.specs.declared.call.QuestionStep.{QuestionStep}
+use Rattle.td_net.specs.declared.advancing.Pending.{Pending}
+use Rattle.td_net.specs.declared.advancing.Pending.TheVariants as pending
 use Rattle.td_ops.specs.declared.call.Query.{Query}
 use Rattle.td_store.specs.declared.local.Local.{Local}
 use Rattle.td_trader.specs.PlainTraders.{PlainTrader}
-use Rattle.td_visit.specs.Standing.{Standing}
+use Rattle.td_visit.specs.Standing.{FrameState}
 use Rattle.td_walk.specs.Answers.{HasDrawn, IsAnswer}
 use Rattle.td_walk.specs.declared.answer.StepAnswer.{StepAnswer}
 use Rattle.td_walk.specs.declared.answer.SubAnswer.{SubAnswer}
 use Rattle.td_walk.specs.declared.trace.Address.{Address}
 use Rattle.td_walk.specs.declared.trace.Visit.{Visit}
-use Rattle.td_walk_laws.specs.Reach.{turns_of}
+use Rattle.td_query_walk.specs.Reach.{turns_of}
 
 -- ---- places in a list
 
@@ -95,9 +97,9 @@ err-any (Err e) h = h
 -- ---- what becomes of a visit
 
 -- a call has ended
-pub closes : (calls : List Call) (c : ℕ) (s t : Supplied) (l m : Local) (rs : List StepAnswer) (ss : List Step)
-    (a : SubAnswer) (v : Visit) (drawn : ℕ) (x new : Call) → m ≡ l → v ≡ answered m a → drawn ≡ s.drawn
-    → x ≡ slice_index_or calls c x → new ≡ ending x ss drawn v
+pub closes : (calls : List Call) (c : ℕ) (s t : WordSupply) (l m : Local) (rs : List StepAnswer) (ss : List QuestionStep)
+    (a : SubAnswer) (v : Visit) (drawn : ℕ) (x new : Call) → m ≡ l → v ≡ visit_answer m a → drawn ≡ s.drawn
+    → x ≡ slice_index_or calls c x → new ≡ ended_call x ss drawn v
     → IsAnswer l rs (word_of s) a → HasDrawn l rs (word_of s) (word_of t) → t.all ≡ s.all
     → s.drawn ≤ length s.all → t.drawn ≤ length t.all → IsTrimmed s.all
     → (k : Call) (w : World) → slice_get calls c ≡ Some k → HasVisits w calls s
@@ -106,7 +108,7 @@ closes calls c s t l m rs ss a v drawn x new local visit_is number value written
     k w is h =
     let n = drawn_by l rs in
     let kx : k ≡ x = read calls c k x is value in
-    let vl : v ≡ answered l a = visit_is ∙ ap (λ (z : Local). answered z a) local in
+    let vl : v ≡ visit_answer l a = visit_is ∙ ap (λ (z : Local). visit_answer z a) local in
     let same : word_of s ≡ words_from w.words w.drawn =
     ap (λ z. words_from z s.drawn) (sym h.words_are) ∙ ap (words_from w.words) (sym h.drawn_is) in
     let to_come : (j : ℕ) → words_from s.all t.drawn j ≡ words_from s.all s.drawn (j + n) =
@@ -116,36 +118,36 @@ closes calls c s t l m rs ss a v drawn x new local visit_is number value written
     let count2 : t.drawn ≡ drawn_after w.words w.drawn n =
     count
     ∙ (ap (λ z. drawn_after z s.drawn n) (sym h.words_are) ∙ ap (λ z. drawn_after w.words z n) (sym h.drawn_is)) in
-    let one : new ≡ ending k ss w.drawn (answered l a) =
+    let one : new ≡ ended_call k ss w.drawn (visit_answer l a) =
     written
-    ∙ (ap (λ z. ending z ss drawn v) (sym kx)
-    ∙ (ap (λ z. ending k ss z v) (number ∙ sym h.drawn_is) ∙ ap (ending k ss w.drawn) vl)) in
-    let list : slice_set calls c new ≡ slice_set w.calls c (ending k ss w.drawn (answered l a)) =
+    ∙ (ap (λ z. ended_call z ss drawn v) (sym kx)
+    ∙ (ap (λ z. ended_call k ss z v) (number ∙ sym h.drawn_is) ∙ ap (ended_call k ss w.drawn) vl)) in
+    let list : slice_set calls c new ≡ slice_set w.calls c (ended_call k ss w.drawn (visit_answer l a)) =
     ap (λ z. slice_set calls c z) one
-    ∙ ap (λ z. slice_set z c (ending k ss w.drawn (answered l a))) (sym h.calls_are) in (
+    ∙ ap (λ z. slice_set z c (ended_call k ss w.drawn (visit_answer l a))) (sym h.calls_are) in (
       a,
       subst (λ z. IsAnswer l rs z a) same answer,
       ap (λ z. after w z t.drawn) list
-          ∙ ap (λ z. after w (slice_set w.calls c (ending k ss w.drawn (answered l a))) z) count2,
+          ∙ ap (λ z. after w (slice_set w.calls c (ended_call k ss w.drawn (visit_answer l a))) z) count2,
     )
 
 -- a visit waits for a value
-pub waits-for-value : (calls : List Call) (c : ℕ) (s : Supplied) (l : Local) (f : Standing) (ss : List Step)
+pub waits-for-value : (calls : List Call) (c : ℕ) (s : WordSupply) (l : Local) (f : FrameState) (ss : List QuestionStep)
     (x new : Call) → f.local ≡ l → x ≡ slice_index_or calls c x → new ≡ record x { stage = Evaluating f; steps = ss }
     → (k : Call) (w : World) → slice_get calls c ≡ Some k → HasVisits w calls s
     → Becomes w (placed_by w c k l f.answers ss pending.Value) (after w (slice_set calls c new) s.drawn)
 waits-for-value calls c s l f ss x new local value written k w is h =
     let kx : k ≡ x = read calls c k x is value in
-    let now = evaluating k l f.answers ss in
+    let now = evaluating_call k l f.answers ss in
     let one : new ≡ now =
     written
-    ∙ (ap (λ (z : Local). evaluating x z f.answers ss) local ∙ ap (λ z. evaluating z l f.answers ss) (sym kx)) in
+    ∙ (ap (λ (z : Local). evaluating_call x z f.answers ss) local ∙ ap (λ z. evaluating_call z l f.answers ss) (sym kx)) in
     ap (λ z. after w (slice_set calls c z) s.drawn) one
     ∙ (ap (λ z. after w (slice_set z c now) s.drawn) (sym h.calls_are)
     ∙ ap (λ z. after w (slice_set w.calls c now) z) (sym h.drawn_is))
 
 -- a visit waits for a call that it opens
-pub waits-for-call : (calls list : List Call) (c : ℕ) (s : Supplied) (l : Local) (f : Standing) (ss : List Step)
+pub waits-for-call : (calls list : List Call) (c : ℕ) (s : WordSupply) (l : Local) (f : FrameState) (ss : List QuestionStep)
     (target sub : ℕ) (q : Query) (x new : Call) → f.local ≡ l → sub ≡ length calls
     → ((k : Call) → slice_get calls c ≡ Some k → list ≡ calls ++ sent target q k.root (Some c) ∷ [])
     → x ≡ slice_index_or list c x → new ≡ record x { stage = Waiting f sub; steps = ss }
@@ -157,80 +159,80 @@ waits-for-call calls list c s l f ss target sub q x new local number opened valu
     let there : slice_get list c ≡ Some k =
     subst (λ z. slice_get z c ≡ Some k) (sym longer) (get-front calls c k d is) in
     let kx : k ≡ x = read list c k x there value in
-    let now = waiting k l f.answers ss (length calls) in
+    let now = waiting_call k l f.answers ss (length calls) in
     let one : new ≡ now =
     written
-    ∙ (ap (λ (z : Local). waiting x z f.answers ss sub) local
-    ∙ (ap (λ z. waiting z l f.answers ss sub) (sym kx) ∙ ap (waiting k l f.answers ss) number)) in
+    ∙ (ap (λ (z : Local). waiting_call x z f.answers ss sub) local
+    ∙ (ap (λ z. waiting_call z l f.answers ss sub) (sym kx) ∙ ap (waiting_call k l f.answers ss) number)) in
     let whole : slice_set list c new ≡ slice_set calls c now ++ d ∷ [] =
     ap (λ z. slice_set list c z) one
     ∙ (ap (λ z. slice_set z c now) longer ∙ set-front calls c now d k is) in
     ap (λ z. after w z s.drawn)
-    (whole ∙ ap (λ z. slice_set z c (waiting k l f.answers ss (length z)) ++ d ∷ []) (sym h.calls_are))
-    ∙ ap (λ z. after w (slice_set w.calls c (waiting k l f.answers ss (length w.calls)) ++ d ∷ []) z) (sym h.drawn_is)
+    (whole ∙ ap (λ z. slice_set z c (waiting_call k l f.answers ss (length z)) ++ d ∷ []) (sym h.calls_are))
+    ∙ ap (λ z. after w (slice_set w.calls c (waiting_call k l f.answers ss (length w.calls)) ++ d ∷ []) z) (sym h.drawn_is)
 
 -- where a visit stands that has gone on
-pub as-settled : (w : World) (c : ℕ) (k : Call) (l : Local) (rs0 : List StepAnswer) (ss0 : List Step)
-    (rs : List StepAnswer) (ss : List Step) (p : Pending) (ts : List PlainTrader) (home : Address) (u : World)
-    → settled rs ss p ≡ settle (turns_of l + 1) (inside ts home) l rs0 ss0 → HasGroup w ts home
+pub as-settled : (w : World) (c : ℕ) (k : Call) (l : Local) (rs0 : List StepAnswer) (ss0 : List QuestionStep)
+    (rs : List StepAnswer) (ss : List QuestionStep) (p : Pending) (ts : List PlainTrader) (home : Address) (u : World)
+    → visit_progress rs ss p ≡ settle (turns_of l + 1) (inside ts home) l rs0 ss0 → HasGroup w ts home
     → Becomes w (placed_by w c k l rs ss p) u → Becomes w (goes_on w c k l rs0 ss0) u
 as-settled w c k l rs0 ss0 rs ss p ts home u is h b =
-    let same : settled rs ss p ≡ settle (turns_of l + 1) (inside w.traders w.home) l rs0 ss0 =
+    let same : visit_progress rs ss p ≡ settle (turns_of l + 1) (inside w.traders w.home) l rs0 ss0 =
     is
     ∙ (ap (λ z. settle (turns_of l + 1) (inside z home) l rs0 ss0) (sym h.traders_are)
     ∙ ap (λ z. settle (turns_of l + 1) (inside w.traders z) l rs0 ss0) (sym h.home_is)) in
-    subst (λ (z : Settled). Becomes w (placed w c k l z) u) same b
+    subst (λ (z : VisitProgress). Becomes w (place_visit w c k l z) u) same b
 
 -- what is promised of a visit that goes on
-abbrev GoesOn : List PlainTrader → Address → (calls : List Call) → Supplied → (c : ℕ) → Standing → List Step
+abbrev GoesOn : List PlainTrader → Address → (calls : List Call) → WordSupply → (c : ℕ) → FrameState → List QuestionStep
     → (u : List Call) → (drawn : ℕ) → Type 0
 GoesOn ts home calls s c f ss u drawn =
     (k : Call) (w : World) → slice_get calls c ≡ Some k → HasGroup w ts home → HasVisits w calls s
     → Becomes w (goes_on w c k f.local f.answers ss) (after w u drawn)
 
 -- a visit that has no answer yet
-pub opens : (r : Result Unit Memory) (ts : List PlainTrader) (home : Address) (calls : List Call) (s : Supplied)
-    (c : ℕ) (f : Standing) (l : Local) (ss : List Step) (u : List Call) (drawn : ℕ) → f ≡ standing l [] → ss ≡ []
-    → OnOk r (GoesOn ts home calls s c f ss u drawn) → OnOk r (GoesOn ts home calls s c (standing l []) [] u drawn)
+pub opens : (r : Result Unit Memory) (ts : List PlainTrader) (home : Address) (calls : List Call) (s : WordSupply)
+    (c : ℕ) (f : FrameState) (l : Local) (ss : List QuestionStep) (u : List Call) (drawn : ℕ) → f ≡ visit_state l [] → ss ≡ []
+    → OnOk r (GoesOn ts home calls s c f ss u drawn) → OnOk r (GoesOn ts home calls s c (visit_state l []) [] u drawn)
 opens r ts home calls s c f l ss u drawn frame steps h =
-    subst (λ (z : Standing). OnOk r (GoesOn ts home calls s c z [] u drawn)) frame
+    subst (λ (z : FrameState). OnOk r (GoesOn ts home calls s c z [] u drawn)) frame
     (subst (λ z. OnOk r (GoesOn ts home calls s c f z u drawn)) steps h)
 
 -- ---- calls that are written anew
 
 -- a call whose stage and steps are written anew may hold others meanwhile
-pub placed-anew : (v w : World) (c : ℕ) (k m : Call) (l : Local) (rs : List StepAnswer) (ss : List Step) (p : Pending)
+pub placed-anew : (v w : World) (c : ℕ) (k m : Call) (l : Local) (rs : List StepAnswer) (ss : List QuestionStep) (p : Pending)
     (u : List Call) (drawn : ℕ) → record m { stage = k.stage; steps = k.steps } ≡ k
     → Becomes (with_calls w (slice_set w.calls c m)) (placed_by (with_calls w (slice_set w.calls c m)) c m l rs ss p)
     (after w u drawn) → Becomes v (placed_by w c k l rs ss p) (after w u drawn)
 placed-anew v w c k m l rs ss pending.Nothing u drawn rest b =
-    let a = answered l b.0 in (
+    let a = visit_answer l b.0 in (
       b.0,
       b.1,
       b.2
           ∙ ap (λ z. after w z (drawn_after w.words w.drawn (drawn_by l rs)))
-          (set-set w.calls c m _ ∙ ap (λ (z : Call). slice_set w.calls c (ending z ss w.drawn a)) rest),
+          (set-set w.calls c m _ ∙ ap (λ (z : Call). slice_set w.calls c (ended_call z ss w.drawn a)) rest),
     )
 placed-anew v w c k m l rs ss pending.Value u drawn rest b =
     b
     ∙ ap (λ z. with_calls w z)
-    (set-set w.calls c m _ ∙ ap (λ (z : Call). slice_set w.calls c (evaluating z l rs ss)) rest)
+    (set-set w.calls c m _ ∙ ap (λ (z : Call). slice_set w.calls c (evaluating_call z l rs ss)) rest)
 placed-anew v w c k m l rs ss (pending.SubQuery t q) u drawn rest b =
     b
     ∙ ap (λ z. with_calls w z)
     (ap (λ z. z ++ sent t q m.root (Some c) ∷ []) (set-set w.calls c m _)
-    ∙ (ap (λ n. slice_set w.calls c (waiting m l rs ss n) ++ sent t q m.root (Some c) ∷ []) (length-set w.calls c m)
+    ∙ (ap (λ n. slice_set w.calls c (waiting_call m l rs ss n) ++ sent t q m.root (Some c) ∷ []) (length-set w.calls c m)
     ∙ ap
-    (λ (z : Call). slice_set w.calls c (waiting z l rs ss (length w.calls)) ++ sent t q z.root (Some c) ∷ []) rest))
+    (λ (z : Call). slice_set w.calls c (waiting_call z l rs ss (length w.calls)) ++ sent t q z.root (Some c) ∷ []) rest))
 
 -- the visit of a call has taken an answer
-pub taken : (ts : List PlainTrader) (home : Address) (calls : List Call) (s : Supplied) (p : ℕ) (x m : Call)
-    (f g : Standing) (step : Step) (a : StepAnswer) (ss : List Step) (u : List Call) (drawn : ℕ)
+pub taken : (ts : List PlainTrader) (home : Address) (calls : List Call) (s : WordSupply) (p : ℕ) (x m : Call)
+    (f g : FrameState) (step : QuestionStep) (a : StepAnswer) (ss : List QuestionStep) (u : List Call) (drawn : ℕ)
     → x ≡ slice_index_or calls p x → frame_in x.stage ≡ Some f → record m { stage = x.stage; steps = x.steps } ≡ x
-    → g ≡ standing f.local (f.answers ++ a ∷ []) → ss ≡ x.steps ++ step ∷ []
+    → g ≡ visit_state f.local (f.answers ++ a ∷ []) → ss ≡ x.steps ++ step ∷ []
     → ((k : Call) (w : World) → slice_get (slice_set calls p m) p ≡ Some k → HasGroup w ts home
     → HasVisits w (slice_set calls p m) s → Becomes w (goes_on w p k g.local g.answers ss) (after w u drawn))
-    → (k : Call) (w : World) (h : Standing) → slice_get calls p ≡ Some k → frame_in k.stage ≡ Some h
+    → (k : Call) (w : World) (h : FrameState) → slice_get calls p ≡ Some k → frame_in k.stage ≡ Some h
     → HasGroup w ts home → HasVisits w calls s → Becomes w (takes w p k h step a) (after w u drawn)
 taken ts home calls s p x m f g step a ss u drawn value some rest next steps_are later k w h is holds group visits =
     let kx : k ≡ x = read calls p k x is value in
@@ -250,13 +252,13 @@ taken ts home calls s p x m f g step a ss u drawn value some rest next steps_are
     let one : Becomes w (goes_on w p k g.local g.answers ss) (after w u drawn) =
     subst (λ (z : Call). Becomes w (goes_on w p z g.local g.answers ss) (after w u drawn)) (sym kx) anew in
     let two : Becomes w (goes_on w p k f.local (f.answers ++ a ∷ []) ss) (after w u drawn) =
-    subst (λ (z : Standing). Becomes w (goes_on w p k z.local z.answers ss) (after w u drawn)) next one in
+    subst (λ (z : FrameState). Becomes w (goes_on w p k z.local z.answers ss) (after w u drawn)) next one in
     let three : Becomes w (goes_on w p k f.local (f.answers ++ a ∷ []) (k.steps ++ step ∷ [])) (after w u drawn) =
     subst (λ z. Becomes w (goes_on w p k f.local (f.answers ++ a ∷ []) z) (after w u drawn))
     (steps_are ∙ ap (λ (z : Call). z.steps ++ step ∷ []) (sym kx)) two in
-    subst (λ (z : Standing). Becomes w (takes w p k z step a) (after w u drawn)) (sym hf) three
+    subst (λ (z : FrameState). Becomes w (takes w p k z step a) (after w u drawn)) (sym hf) three
   where
-    same_some : (y z : Standing) → Some y ≡ Some z → y ≡ z
+    same_some : (y z : FrameState) → Some y ≡ Some z → y ≡ z
     same_some y z e = cc
 
 -- ---- calls that have ended

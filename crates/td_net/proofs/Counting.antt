@@ -7,7 +7,7 @@ use Rattle.td_net.specs.Supplies.{IsTrimmed, drawn_after, words_from}
 use Rattle.td_net.specs.Worlds.{drawn_by}
 use Rattle.td_store.specs.declared.local.Local.{Local}
 use Rattle.td_walk.specs.Answers.{DrawsGathered, HasDrawn}
-use Rattle.td_walk.specs.Visits.{Reads, visit_of}
+use Rattle.td_walk.specs.Visits.{AnswersRead, visit_of}
 use Rattle.td_walk.specs.declared.answer.StepAnswer.{StepAnswer}
 use Rattle.td_walk.specs.declared.gathering.Gathered.{Gathered}
 use Rattle.td_net.specs.Worlds.{drawn_in}
@@ -67,7 +67,7 @@ next_word ws d k = ap (slice_index ws) (omega arith)
 
 -- ---- what a ranking draws
 
-drawn-so : (l : Local) (r : Reads Gathered) (before after : ℕ → ℕ) → DrawsGathered l r before after
+drawn-so : (l : Local) (r : AnswersRead Gathered) (before after : ℕ → ℕ) → DrawsGathered l r before after
     → (k : ℕ) → after k ≡ before (k + drawn_in l r)
 drawn-so l (Ok x) before after h = h
 drawn-so l (Err q) before after h = absurd h

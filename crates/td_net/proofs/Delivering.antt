@@ -7,19 +7,20 @@ use Rattle.std.specs.declared.snapshot.Snapshot.{Snapshot}
 use Rattle.td_net.proofs.Becoming.{get-end, get-set_same, keeps-longer, keeps-others, placed-anew, read}
 use Rattle.td_net.proofs.Becoming.{set-get, set-set}
 use Rattle.td_net.proofs.Snapshots.{trader-shown}
-use Rattle.td_net.specs.Supplies.{Supplied}
+use Rattle.td_net.specs.Supplies.{WordSupply}
 use Rattle.td_net.specs.Worlds.{Becomes, Closing, DoneAs, HasGroup, HasVisits, IsLeft, KeepsEnded, Moved, Refused}
-use Rattle.td_net.specs.Worlds.{Taken, TakenAs, World, after, begun_by, deliver_to, delivered, delivery_of, fault_in}
+use Rattle.td_net.specs.Worlds.{EventResult, TakenAs, World, after, begun_by, deliver_to, deliver_call, delivery_of}
+use Rattle.td_net.specs.Worlds.{fault_in}
 use Rattle.td_net.specs.Worlds.{inside, placed_by, settle, traders_behind, visit_in, with_begun, with_calls, world}
 use Rattle.td_net.specs.declared.call.Call.{Call}
 use Rattle.td_net.specs.declared.call.Delivery.{Delivery}
 use Rattle.td_net.specs.declared.call.Stage.{Stage}
 use Rattle.td_net.specs.declared.call.Stage.TheVariants.{Sent, Running, Evaluating, Waiting, Ended}
-use Rattle.td_net.specs.declared.call.Step.{Step}
+use Rattle.td_net.specs.declared.call.QuestionStep.{QuestionStep}
 use Rattle.td_net.specs.declared.event.NetFault.{NetFault}
-use Rattle.td_net.specs.declared.settling.Pending.{Pending}
-use Rattle.td_net.specs.declared.settling.Pending.TheVariants as pending
-use Rattle.td_net.specs.Worlds.{ask_at, deliver_at, deliver_in, is_sent, opened, sent}
+use Rattle.td_net.specs.declared.advancing.Pending.{Pending}
+use Rattle.td_net.specs.declared.advancing.Pending.TheVariants as pending
+use Rattle.td_net.specs.Worlds.{ask_at, deliver_at, deliver_in, is_sent, open_call, sent}
 use Rattle.td_ops.specs.declared.call.Query.{Query}
 use Rattle.td_store.specs.declared.local.Local.{Local}
 use Rattle.td_trader.specs.PlainTraders.{PlainTrader, after_begin, begin_at}
@@ -27,21 +28,21 @@ use Rattle.td_trader.specs.declared.begin.Begin.{Begin}
 use Rattle.td_trader.specs.declared.begin.Begin.TheVariants as begin
 use Rattle.td_walk.specs.declared.answer.StepAnswer.{StepAnswer}
 use Rattle.td_walk.specs.declared.trace.Address.{Address}
-use Rattle.td_walk_laws.specs.Reach.{turns_of}
+use Rattle.td_query_walk.specs.Reach.{turns_of}
 
 -- ---- events that aren't refused
 
 -- it isn't refused
-abbrev pub Goes : Taken → Type 0
+abbrev pub Goes : EventResult → Type 0
 Goes t = fault_in t ≡ None
 
-placed-goes : (w : World) (c : ℕ) (k : Call) (l : Local) (rs : List StepAnswer) (ss : List Step) (p : Pending)
+placed-goes : (w : World) (c : ℕ) (k : Call) (l : Local) (rs : List StepAnswer) (ss : List QuestionStep) (p : Pending)
     → Goes (placed_by w c k l rs ss p)
 placed-goes w c k l rs ss pending.Nothing = refl
 placed-goes w c k l rs ss pending.Value = refl
 placed-goes w c k l rs ss (pending.SubQuery t q) = refl
 
-pub goes-on : (w : World) (c : ℕ) (k : Call) (l : Local) (rs : List StepAnswer) (ss : List Step)
+pub goes-on : (w : World) (c : ℕ) (k : Call) (l : Local) (rs : List StepAnswer) (ss : List QuestionStep)
     → let s = settle (turns_of l + 1) (inside w.traders w.home) l rs ss in
     Goes (placed_by w c k l s.answers s.steps s.pending)
 goes-on w c k l rs ss =
@@ -55,7 +56,7 @@ begun-goes w c k (begin.Search l) = goes-on w c k l [] []
 begun-goes w c k (begin.Path l) = goes-on w c k l [] []
 
 -- the calls of v are those of w, and maybe more
-pub taken-as : (w v : World) (t : Taken) (r : Result Unit NetFault) (u : World) → Goes t
+pub taken-as : (w v : World) (t : EventResult) (r : Result Unit NetFault) (u : World) → Goes t
     → traders_behind v t ≡ traders_behind w t → v.traders ≡ w.traders → KeepsEnded w.calls v.calls → DoneAs v t r u
     → TakenAs w t r u
 taken-as w v (Refused f) r u goes same traders longer h =
@@ -77,7 +78,7 @@ taken-as w v (Closing x c k l rs ss) (Err g) u goes same traders longer h =
 
 -- ---- the traders behind it
 
-placed-behind : (v w : World) (c : ℕ) (k : Call) (l : Local) (rs : List StepAnswer) (ss : List Step) (p : Pending)
+placed-behind : (v w : World) (c : ℕ) (k : Call) (l : Local) (rs : List StepAnswer) (ss : List QuestionStep) (p : Pending)
     → traders_behind v (placed_by w c k l rs ss p) ≡ w.traders
 placed-behind v w c k l rs ss pending.Nothing = refl
 placed-behind v w c k l rs ss pending.Value = refl
@@ -114,22 +115,22 @@ begun-anew v w c m (begin.Search l) u drawn b = on-anew v w c m l u drawn b
 begun-anew v w c m (begin.Path l) u drawn b = on-anew v w c m l u drawn b
 
 -- what is promised of a call that goes on as its query began
-abbrev GoesOn : List PlainTrader → Address → (calls : List Call) → Supplied → (c : ℕ) → Begin → (u : List Call)
+abbrev GoesOn : List PlainTrader → Address → (calls : List Call) → WordSupply → (c : ℕ) → Begin → (u : List Call)
     → (drawn : ℕ) → Type 0
 GoesOn ts home calls s c b u drawn =
     (k : Call) (w : World) → slice_get calls c ≡ Some k → HasGroup w ts home → HasVisits w calls s
     → Becomes w (begun_by w c k b) (after w u drawn)
 
 -- the trader and the call are as they are written down
-begun-plain : (ts : List PlainTrader) (home : Address) (calls u : List Call) (clock : ℕ) (s : Supplied) (drawn c : ℕ)
+begun-plain : (ts : List PlainTrader) (home : Address) (calls u : List Call) (clock : ℕ) (s : WordSupply) (drawn c : ℕ)
     (k : Call) (t : PlainTrader) → slice_get calls c ≡ Some k
     → GoesOn (slice_set ts k.target (after_begin t k.query (begin_at t k.query))) home
-    (slice_set calls c (delivered k (delivery_of clock t))) s c (begin_at t k.query) u drawn
+    (slice_set calls c (deliver_call k (delivery_of clock t))) s c (begin_at t k.query) u drawn
     → let w = world ts home calls clock s.all s.drawn in
     Becomes w (deliver_to w c k (Some t)) (after (with_begun w k.target t k.query) u drawn)
 begun-plain ts home calls u clock s drawn c k t is later =
     let w = world ts home calls clock s.all s.drawn in
-    let m = delivered k (delivery_of clock t) in
+    let m = deliver_call k (delivery_of clock t) in
     let w1 = with_begun w k.target t k.query in
     begun-anew w w1 c m (begin_at t k.query) u drawn
     (later m (with_calls w1 (slice_set calls c m)) (get-set_same calls c k m is)
@@ -151,7 +152,7 @@ pub record Written (ts : List PlainTrader) (calls : List Call) (clock c n : ℕ)
   pub shows : snapshot.value ≡ seen
   pub begun : b ≡ begin_at trader asked.query
   pub behind : t2 ≡ after_begin trader asked.query b
-  pub delivered_so : m ≡ delivered written (record { serial = clock; seen = snapshot })
+  pub delivered_so : m ≡ deliver_call written (record { serial = clock; seen = snapshot })
 
 module _ (ts : List PlainTrader) (home : Address) (calls : List Call) (clock c n : ℕ) (b : Begin) (t2 : PlainTrader)
     (m : Call) (h : Written ts calls clock c n b t2 m) (k : Call) (t : PlainTrader) (is : slice_get calls c ≡ Some k)
@@ -180,17 +181,17 @@ module _ (ts : List PlainTrader) (home : Address) (calls : List Call) (clock c n
       ∙ (ap (λ (z : PlainTrader). after_begin z h.asked.query b) (sym trader-is)
       ∙ (ap (λ (z : Call). after_begin t z.query b) (sym asked-is) ∙ ap (after_begin t k.query) begin-is))
 
-  call-is : m ≡ delivered k (delivery_of clock t)
+  call-is : m ≡ deliver_call k (delivery_of clock t)
   call-is =
       h.delivered_so
-      ∙ (ap (λ (z : Call). delivered z (record { serial = clock; seen = h.snapshot })) (sym written-is)
-      ∙ ap (λ z. delivered k (record { serial = clock; seen = z })) (trader-shown h.snapshot t (h.shows ∙ sym seen-is)))
+      ∙ (ap (λ (z : Call). deliver_call z (record { serial = clock; seen = h.snapshot })) (sym written-is)
+      ∙ ap (λ z. deliver_call k (record { serial = clock; seen = z })) (trader-shown h.snapshot t (h.shows ∙ sym seen-is)))
 
   traders-are : slice_set ts n t2 ≡ slice_set ts k.target (after_begin t k.query (begin_at t k.query))
   traders-are = ap (λ z. slice_set ts z t2) (sym at) ∙ ap (slice_set ts k.target) trader-behind
 
   -- the call has gone on
-  pub delivers : (s s2 : Supplied) (u : List Call) → s2.all ≡ s.all
+  pub delivers : (s s2 : WordSupply) (u : List Call) → s2.all ≡ s.all
       → GoesOn (slice_set ts n t2) home (slice_set calls c m) s c b u s2.drawn
       → let w = world ts home calls clock s.all s.drawn in
       Becomes w (deliver_to w c k (Some t)) (world (slice_set ts n t2) home u (clock + 1) s2.all s2.drawn)
@@ -199,7 +200,7 @@ module _ (ts : List PlainTrader) (home : Address) (calls : List Call) (clock c n
       let ts2 = slice_set ts k.target (after_begin t k.query (begin_at t k.query)) in
       let one = subst (λ z. GoesOn z home (slice_set calls c m) s c b u s2.drawn) traders-are later in
       let two = subst (λ (z : Call). GoesOn ts2 home (slice_set calls c z) s c b u s2.drawn) call-is one in
-      let now = delivered k (delivery_of clock t) in
+      let now = deliver_call k (delivery_of clock t) in
       let three = subst (λ z. GoesOn ts2 home (slice_set calls c now) s c z u s2.drawn) begin-is two in
       let done = begun-plain ts home calls u clock s s2.drawn c k t is three in
       let worlds :
@@ -209,7 +210,7 @@ module _ (ts : List PlainTrader) (home : Address) (calls : List Call) (clock c n
       subst (λ z. Becomes w (deliver_to w c k (Some t)) z) (sym worlds) done
 
   -- the trader has begun its query, but the call didn't go on
-  pub leaves-begun : (s s2 : Supplied) (u : List Call) → k.stage ≡ Sent → u ≡ slice_set calls c m
+  pub leaves-begun : (s s2 : WordSupply) (u : List Call) → k.stage ≡ Sent → u ≡ slice_set calls c m
       → let w = world ts home calls clock s.all s.drawn in
       IsLeft w (deliver_to w c k (Some t)) (world (slice_set ts n t2) home u clock s2.all s2.drawn)
   leaves-begun s s2 u sent same =
@@ -217,7 +218,7 @@ module _ (ts : List PlainTrader) (home : Address) (calls : List Call) (clock c n
       record {
         traders =
             inr (traders-are
-            ∙ sym (begun-behind w (with_begun w k.target t k.query) c (delivered k (delivery_of clock t))
+            ∙ sym (begun-behind w (with_begun w k.target t k.query) c (deliver_call k (delivery_of clock t))
             (begin_at t k.query)));
         ended =
             subst (λ z. KeepsEnded calls z) (sym same)
@@ -230,14 +231,14 @@ module _ (ts : List PlainTrader) (home : Address) (calls : List Call) (clock c n
 pub asked : (w : World) (n : ℕ) (q : Query) (t : PlainTrader) (r : Result Unit NetFault) (u : World)
     → slice_get w.traders n ≡ Some t
     → let k = sent n q (length w.calls) None in
-    let v = opened w k in
+    let v = open_call w k in
     DoneAs v (deliver_to v (length w.calls) k (Some t)) r u
     → TakenAs w (ask_at w n q (slice_get w.traders n)) r u
 asked w n q t r u is done =
     let k = sent n q (length w.calls) None in
-    let v = opened w k in
+    let v = open_call w k in
     let b = with_begun v n t q in
-    let m = delivered k (delivery_of v.clock t) in
+    let m = deliver_call k (delivery_of v.clock t) in
     let begin_is = begin_at t q in
     subst (λ o. TakenAs w (ask_at w n q o) r u) (sym is)
     (taken-as w v (deliver_to v (length w.calls) k (Some t)) r u (begun-goes b (length w.calls) m begin_is)
@@ -245,7 +246,7 @@ asked w n q t r u is done =
     (keeps-longer w.calls k) done)
 
 -- the same as the code does it
-pub asked-from : (ts : List PlainTrader) (home : Address) (calls list : List Call) (clock : ℕ) (s : Supplied) (n : ℕ)
+pub asked-from : (ts : List PlainTrader) (home : Address) (calls list : List Call) (clock : ℕ) (s : WordSupply) (n : ℕ)
     (q : Query) (t : PlainTrader) (c : ℕ) (r : Result Unit NetFault) (u : World) → slice_get ts n ≡ Some t
     → c ≡ length calls → list ≡ calls ++ sent n q (length calls) None ∷ []
     → (slice_get list c ≡ Some (sent n q (length calls) None)
@@ -256,7 +257,7 @@ pub asked-from : (ts : List PlainTrader) (home : Address) (calls list : List Cal
 asked-from ts home calls list clock s n q t c r u is number longer later =
     let k = sent n q (length calls) None in
     let w = world ts home calls clock s.all s.drawn in
-    let v = opened w k in
+    let v = open_call w k in
     let at : slice_get list c ≡ Some k =
     ap (λ z. slice_get z c) longer ∙ (ap (slice_get (calls ++ k ∷ [])) number ∙ get-end calls k) in
     let one : DoneAs v (deliver_to v c k (Some t)) r u =
@@ -278,7 +279,7 @@ pub delivers-at : (w : World) (c : ℕ) (k : Call) (t : PlainTrader) (r : Result
     → DoneAs w (deliver_to w c k (Some t)) r u → TakenAs w (deliver_at w c (slice_get w.calls c)) r u
 delivers-at w c k t r u is stage stands done =
     let b = with_begun w k.target t k.query in
-    let m = delivered k (delivery_of w.clock t) in
+    let m = deliver_call k (delivery_of w.clock t) in
     let one : TakenAs w (deliver_to w c k (Some t)) r u =
     taken-as w w (deliver_to w c k (Some t)) r u (begun-goes b c m (begin_at t k.query)) refl refl (λ d v e. e) done in
     let two : TakenAs w (deliver_to w c k (slice_get w.traders k.target)) r u =

@@ -8,7 +8,7 @@ use Rattle.std.specs.Option.{option_map}
 use Rattle.std.specs.Prelude.{Option, None, Some}
 use Rattle.std.specs.Str.{bytes_eq}
 use Rattle.td_net.specs.Worlds.{is_named}
-use Rattle.td_places.specs.Targets.{place_of}
+use Rattle.td_targets.specs.Targets.{place_of}
 use Rattle.td_trader.specs.PlainTraders.{PlainTrader}
 use Rattle.td_trader.specs.Solos.{solo_view}
 

@@ -1,7 +1,7 @@
 -- A snapshot is what it shows.
 use Rattle.std.proofs.Common.{◌≡◌, ap}
 use Rattle.std.specs.declared.snapshot.Snapshot.{Snapshot}
-use Rattle.td_codes.specs.declared.code.Any.{Any}
+use Rattle.td_typecode.specs.declared.code.Any.{Any}
 use Rattle.td_net.specs.Worlds.{seen_as}
 use Rattle.td_trader.specs.PlainTraders.{PlainTrader}
 

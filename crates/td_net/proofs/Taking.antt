@@ -4,31 +4,32 @@ use Rattle.std.proofs.Common.{length, slice_get}
 use Rattle.std.proofs.Common.{slice_set, slice_index_or, refl, sym, ◌∙◌, ap, subst, arith, is_some}
 use Rattle.std.proofs.lemmas.Option.{slice_get_past, slice_get_read}
 use Rattle.std.specs.Prelude.{Option, None, Some, Result, Ok, Err}
-use Rattle.td_codes.specs.declared.code.Any.{Any}
+use Rattle.td_typecode.specs.declared.code.Any.{Any}
 use Rattle.td_net.proofs.Becoming.{set-get}
 use Rattle.td_net.proofs.Delivering.{Goes, begun-goes, goes-on}
-use Rattle.td_net.specs.Supplies.{Supplied}
-use Rattle.td_net.specs.Worlds.{Becomes, Closing, HasVisits, IsLeft, KeepsEnded, Moved, Refused, Taken, TakenAs, World}
+use Rattle.td_net.specs.Supplies.{WordSupply}
+use Rattle.td_net.specs.Worlds.{Becomes, Closing, HasVisits, IsLeft, KeepsEnded, Moved, Refused, EventResult, TakenAs}
+use Rattle.td_net.specs.Worlds.{World}
 use Rattle.td_net.specs.Worlds.{after, answer_at, answer_by, answer_in_stage, change_at, evaluates}
-use Rattle.td_net.specs.Worlds.{frame_in, hand_on, handed, lose_at, lose_by, resumed, resumed_in, takes}
+use Rattle.td_net.specs.Worlds.{frame_in, hand_on, hand_answer, lose_at, lose_by, resume_caller, resumed_in, takes}
 use Rattle.td_net.specs.Worlds.{value_answer, value_at, value_in, value_step, visit_in, waits}
 use Rattle.td_net.specs.declared.call.Call.{Call}
 use Rattle.td_net.specs.declared.call.Stage.{Stage}
 use Rattle.td_net.specs.declared.call.Stage.TheVariants.{Sent, Running, Evaluating, Waiting, Ended}
-use Rattle.td_net.specs.declared.call.Step.{Step}
-use Rattle.td_net.specs.declared.call.Step.TheVariants as step
+use Rattle.td_net.specs.declared.call.QuestionStep.{QuestionStep}
+use Rattle.td_net.specs.declared.call.QuestionStep.TheVariants as step
 use Rattle.td_net.specs.declared.event.NetFault.{NetFault}
 use Rattle.td_net.specs.declared.event.NetFault.TheVariants.{NoCall, WrongState, Memory}
-use Rattle.td_net.specs.Worlds.{ask_at, delivered, delivery_of, opened, sent, with_begun, world}
+use Rattle.td_net.specs.Worlds.{ask_at, deliver_call, delivery_of, open_call, sent, with_begun, world}
 use Rattle.td_ops.specs.declared.call.Change.{Change}
 use Rattle.td_ops.specs.declared.call.Query.{Query}
 use Rattle.td_trader.specs.PlainTraders.{PlainTrader, begin_at}
 use Rattle.td_walk.specs.declared.trace.Address.{Address}
-use Rattle.td_visit.specs.Standing.{Standing}
+use Rattle.td_visit.specs.Standing.{FrameState}
 use Rattle.td_walk.specs.declared.answer.StepAnswer.{StepAnswer}
 use Rattle.td_walk.specs.declared.answer.StepAnswer.TheVariants as given
 use Rattle.td_walk.specs.declared.trace.Visit.{Visit}
-use Rattle.td_walk_laws.specs.Walks.{answer_in}
+use Rattle.td_query_walk.specs.Walks.{answer_in}
 
 -- ---- what stands there
 
@@ -41,35 +42,35 @@ nothing-there xs i h = slice_get_past xs i h
 
 -- ---- events that go, and events that are refused
 
-pub taken-ok : (v w : World) (t : Taken) (u : World) → Goes t → Becomes v t u → TakenAs w t (Ok tt) u
+pub taken-ok : (v w : World) (t : EventResult) (u : World) → Goes t → Becomes v t u → TakenAs w t (Ok tt) u
 taken-ok v w (Refused f) u goes b = absurd (let bad : ◌≡◌ {A = Option NetFault} (Some f) None = goes in cc)
 taken-ok v w (Moved x) u goes b = b
 taken-ok v w (Closing x c k l rs ss) u goes b = b
 
-pub taken-err : (w : World) (t : Taken) (u : World) → Goes t → IsLeft w t u → TakenAs w t (Err Memory) u
+pub taken-err : (w : World) (t : EventResult) (u : World) → Goes t → IsLeft w t u → TakenAs w t (Err Memory) u
 taken-err w (Refused f) u goes left = absurd (let bad : ◌≡◌ {A = Option NetFault} (Some f) None = goes in cc)
 taken-err w (Moved v) u goes left = (refl, left)
 taken-err w (Closing v c k l rs ss) u goes left = (refl, left)
 
-pub refused-as : (w : World) (t : Taken) (f : NetFault) (u : World) → t ≡ Refused f → u ≡ w → TakenAs w t (Err f) u
+pub refused-as : (w : World) (t : EventResult) (f : NetFault) (u : World) → t ≡ Refused f → u ≡ w → TakenAs w t (Err f) u
 refused-as w t f u is same = subst (λ z. TakenAs w z (Err f) u) (sym is) (refl, same)
 
 -- the traders are as they were
-pub left-alone : (w : World) (t : Taken) (calls : List Call) (s : Supplied) (now : List Call) (drawn : ℕ)
+pub left-alone : (w : World) (t : EventResult) (calls : List Call) (s : WordSupply) (now : List Call) (drawn : ℕ)
     → HasVisits w calls s → KeepsEnded calls now → IsLeft w t (after w now drawn)
 left-alone w t calls s now drawn h kept =
     record { traders = inl refl; ended = subst (λ z. KeepsEnded z now) (sym h.calls_are) kept }
 
-pub unchanged : (w : World) (calls : List Call) (s : Supplied) → HasVisits w calls s → after w calls s.drawn ≡ w
+pub unchanged : (w : World) (calls : List Call) (s : WordSupply) → HasVisits w calls s → after w calls s.drawn ≡ w
 unchanged w calls s h =
     ap (λ z. after w z s.drawn) (sym h.calls_are) ∙ ap (λ z. after w w.calls z) (sym h.drawn_is)
 
 -- what stands at a call's place in the world
-pub at-call : (w : World) (calls : List Call) (s : Supplied) (c : ℕ) (o : Option Call) → HasVisits w calls s
+pub at-call : (w : World) (calls : List Call) (s : WordSupply) (c : ℕ) (o : Option Call) → HasVisits w calls s
     → slice_get calls c ≡ o → slice_get w.calls c ≡ o
 at-call w calls s c o h is = ap (λ z. slice_get z c) h.calls_are ∙ is
 
--- a trader can't judge a change for want of memory
+-- a trader can't judge a change when out of memory
 pub change-wants : (ts : List PlainTrader) (n : ℕ) (c : Change) (x new : PlainTrader) (w : World) → n < length ts
     → x ≡ slice_index_or ts n x → new ≡ x → w.traders ≡ ts
     → TakenAs w (change_at w n c (slice_get w.traders n)) (Err Memory) (record w { traders = slice_set ts n new })
@@ -80,29 +81,29 @@ change-wants ts n c x new w within value same h =
     subst (λ o. TakenAs w (change_at w n c o) (Err Memory) (record w { traders = slice_set ts n new })) (sym at)
     (refl, record { traders = inl as_before; ended = λ d v e. e })
 
--- a call can't be opened for want of memory
-pub ask-wants : (ts : List PlainTrader) (home : Address) (calls now : List Call) (clock : ℕ) (s : Supplied) (n : ℕ)
+-- a call can't be opened when out of memory
+pub ask-wants : (ts : List PlainTrader) (home : Address) (calls now : List Call) (clock : ℕ) (s : WordSupply) (n : ℕ)
     (q : Query) (t : PlainTrader) → slice_get ts n ≡ Some t → now ≡ calls
     → let w = world ts home calls clock s.all s.drawn in
     TakenAs w (ask_at w n q (slice_get ts n)) (Err Memory) (world ts home now clock s.all s.drawn)
 ask-wants ts home calls now clock s n q t is same =
     let w = world ts home calls clock s.all s.drawn in
-    let v = opened w (sent n q (length calls) None) in
+    let v = open_call w (sent n q (length calls) None) in
     let u = world ts home now clock s.all s.drawn in
     subst (λ o. TakenAs w (ask_at w n q o) (Err Memory) u) (sym is)
     (taken-err w (ask_at w n q (Some t)) u
-    (begun-goes (with_begun v n t q) (length calls) (delivered (sent n q (length calls) None) (delivery_of clock t))
+    (begun-goes (with_begun v n t q) (length calls) (deliver_call (sent n q (length calls) None) (delivery_of clock t))
     (begin_at t q))
     (record { traders = inl refl; ended = subst (λ z. KeepsEnded calls z) (sym same) (λ d a e. e) }))
 
 -- ---- values
 
 module _ (w : World) (c : ℕ) (v : Option Any) where
-  value-goes : (k : Call) (f : Standing) → Goes (takes w c k f (value_step v) (value_answer v))
+  value-goes : (k : Call) (f : FrameState) → Goes (takes w c k f (value_step v) (value_answer v))
   value-goes k f = goes-on w c k f.local _ _
 
   value-in-ok : (k : Call) (stage : Stage) (u : World) → evaluates stage ≡ true
-      → ((f : Standing) → frame_in stage ≡ Some f → Becomes w (takes w c k f (value_step v) (value_answer v)) u)
+      → ((f : FrameState) → frame_in stage ≡ Some f → Becomes w (takes w c k f (value_step v) (value_answer v)) u)
       → TakenAs w (value_in w c k v stage) (Ok tt) u
   value-in-ok k Sent u is h = absurd (let bad : false ≡ true = is in cc)
   value-in-ok k Running u is h = absurd (let bad : false ≡ true = is in cc)
@@ -111,7 +112,7 @@ module _ (w : World) (c : ℕ) (v : Option Any) where
   value-in-ok k (Ended a) u is h = absurd (let bad : false ≡ true = is in cc)
 
   value-in-err : (k : Call) (stage : Stage) (u : World) → evaluates stage ≡ true
-      → ((t : Taken) → IsLeft w t u) → TakenAs w (value_in w c k v stage) (Err Memory) u
+      → ((t : EventResult) → IsLeft w t u) → TakenAs w (value_in w c k v stage) (Err Memory) u
   value-in-err k Sent u is h = absurd (let bad : false ≡ true = is in cc)
   value-in-err k Running u is h = absurd (let bad : false ≡ true = is in cc)
   value-in-err k (Evaluating f) u is h = taken-err w _ u (value-goes k f) (h _)
@@ -127,7 +128,7 @@ module _ (w : World) (c : ℕ) (v : Option Any) where
   value-in-not k (Ended a) u is same = (refl, same)
 
   -- in the terms of the code: x stands at the call's place
-  module _ (calls : List Call) (s : Supplied) (h : HasVisits w calls s) where
+  module _ (calls : List Call) (s : WordSupply) (h : HasVisits w calls s) where
     pub value-nowhere : slice_get calls c ≡ None
         → TakenAs w (value_at w c v (slice_get w.calls c)) (Err NoCall) (after w calls s.drawn)
     value-nowhere is =
@@ -141,7 +142,7 @@ module _ (w : World) (c : ℕ) (v : Option Any) where
         (sym (at-call w calls s c (Some x) h is)) (value-in-not x x.stage _ not (unchanged w calls s h))
 
     pub value-taken : (x : Call) (u : World) → slice_get calls c ≡ Some x → evaluates x.stage ≡ true
-        → ((f : Standing) → frame_in x.stage ≡ Some f → Becomes w (takes w c x f (value_step v) (value_answer v)) u)
+        → ((f : FrameState) → frame_in x.stage ≡ Some f → Becomes w (takes w c x f (value_step v) (value_answer v)) u)
         → TakenAs w (value_at w c v (slice_get w.calls c)) (Ok tt) u
     value-taken x u is does b =
         subst (λ o. TakenAs w (value_at w c v o) (Ok tt) u) (sym (at-call w calls s c (Some x) h is))
@@ -172,9 +173,9 @@ waiting-waits (Ended a) is = is
 
 -- ---- a caller is handed an answer
 
-module _ (w : World) (p : ℕ) (s : Step) (r : StepAnswer) where
+module _ (w : World) (p : ℕ) (s : QuestionStep) (r : StepAnswer) where
   resumed-by : (k : Call) (stage : Stage) (u : World) → waits stage ≡ true
-      → ((f : Standing) → frame_in stage ≡ Some f → Becomes w (takes w p k f s r) u)
+      → ((f : FrameState) → frame_in stage ≡ Some f → Becomes w (takes w p k f s r) u)
       → Becomes w (resumed_in w p k s r stage) u
   resumed-by k Sent u is h = absurd (let bad : false ≡ true = is in cc)
   resumed-by k Running u is h = absurd (let bad : false ≡ true = is in cc)
@@ -197,28 +198,28 @@ module _ (w : World) (p : ℕ) (s : Step) (r : StepAnswer) where
   goes-in k (Waiting f d) = goes-on w p k f.local _ _
   goes-in k (Ended a) = refl
 
-  pub resumed-goes : (o : Option Call) → Goes (resumed w p s r o)
+  pub resumed-goes : (o : Option Call) → Goes (resume_caller w p s r o)
   resumed-goes None = refl
   resumed-goes (Some k) = goes-in k k.stage
 
-  module _ (calls : List Call) (words : Supplied) (h : HasVisits w calls words) where
+  module _ (calls : List Call) (words : WordSupply) (h : HasVisits w calls words) where
     pub given-nowhere : slice_get calls p ≡ None
-        → Becomes w (resumed w p s r (slice_get w.calls p)) (after w calls words.drawn)
+        → Becomes w (resume_caller w p s r (slice_get w.calls p)) (after w calls words.drawn)
     given-nowhere is =
-        subst (λ o. Becomes w (resumed w p s r o) (after w calls words.drawn))
+        subst (λ o. Becomes w (resume_caller w p s r o) (after w calls words.drawn))
         (sym (at-call w calls words p None h is)) (unchanged w calls words h)
 
     pub not-given : (x : Call) → slice_get calls p ≡ Some x → waits x.stage ≡ false
-        → Becomes w (resumed w p s r (slice_get w.calls p)) (after w calls words.drawn)
+        → Becomes w (resume_caller w p s r (slice_get w.calls p)) (after w calls words.drawn)
     not-given x is not =
-        subst (λ o. Becomes w (resumed w p s r o) (after w calls words.drawn))
+        subst (λ o. Becomes w (resume_caller w p s r o) (after w calls words.drawn))
         (sym (at-call w calls words p (Some x) h is)) (not-resumed-by x x.stage _ not (unchanged w calls words h))
 
     pub given-to : (x : Call) (u : World) → slice_get calls p ≡ Some x → waits x.stage ≡ true
-        → ((f : Standing) → frame_in x.stage ≡ Some f → Becomes w (takes w p x f s r) u)
-        → Becomes w (resumed w p s r (slice_get w.calls p)) u
+        → ((f : FrameState) → frame_in x.stage ≡ Some f → Becomes w (takes w p x f s r) u)
+        → Becomes w (resume_caller w p s r (slice_get w.calls p)) u
     given-to x u is does b =
-        subst (λ o. Becomes w (resumed w p s r o) u) (sym (at-call w calls words p (Some x) h is))
+        subst (λ o. Becomes w (resume_caller w p s r o) u) (sym (at-call w calls words p (Some x) h is))
         (resumed-by x x.stage u does b)
 
 -- ---- an answer is handed on, or lost
@@ -262,7 +263,7 @@ no-second-loss : (w : World) (d : ℕ) (k : Call) (o : Option ℕ) → lose_by w
 no-second-loss w d k None = refl
 no-second-loss w d k (Some p) = refl
 
-module _ (w : World) (d : ℕ) (calls : List Call) (s : Supplied) (h : HasVisits w calls s) where
+module _ (w : World) (d : ℕ) (calls : List Call) (s : WordSupply) (h : HasVisits w calls s) where
   pub answer-nowhere : slice_get calls d ≡ None → answer_at w d (slice_get w.calls d) ≡ Refused NoCall
   answer-nowhere is = ap (answer_at w d) (at-call w calls s d None h is)
 
@@ -304,14 +305,14 @@ module _ (w : World) (d : ℕ) (calls : List Call) (s : Supplied) (h : HasVisits
       lose-so = lose-of ∙ (ap (λ z. lose_by w d x z x.handed) caller ∙ ap (λ z. lose_by w d x (Some p) z) once)
 
     -- what the code does once the call is marked
-    module _ (p : ℕ) (y : Call) (marked : y ≡ record x { handed = true }) (t : Taken) (step_is : Step)
+    module _ (p : ℕ) (y : Call) (marked : y ≡ record x { handed = true }) (t : EventResult) (step_is : QuestionStep)
         (answer : StepAnswer) (t_is : t ≡ hand_on w d x p step_is answer) where
       handed-goes : Goes t
       handed-goes =
           subst Goes (sym t_is)
-          (resumed-goes (handed w d x) p step_is answer (slice_get (handed w d x).calls p))
+          (resumed-goes (hand_answer w d x) p step_is answer (slice_get (hand_answer w d x).calls p))
 
-      has-handed : HasVisits (handed w d x) (slice_set calls d y) s
+      has-handed : HasVisits (hand_answer w d x) (slice_set calls d y) s
       has-handed = record {
         calls_are =
             ap (λ z. slice_set z d (record x { handed = true })) h.calls_are
@@ -322,12 +323,12 @@ module _ (w : World) (d : ℕ) (calls : List Call) (s : Supplied) (h : HasVisits
 
       pub handed-on : (u : List Call) (drawn : ℕ)
           → ((v : World) → v.traders ≡ w.traders → v.home ≡ w.home → HasVisits v (slice_set calls d y) s
-          → Becomes v (resumed v p step_is answer (slice_get v.calls p)) (after v u drawn))
+          → Becomes v (resume_caller v p step_is answer (slice_get v.calls p)) (after v u drawn))
           → TakenAs w t (Ok tt) (after w u drawn)
       handed-on u drawn later =
-          taken-ok (handed w d x) w t (after w u drawn) handed-goes
-          (subst (λ z. Becomes (handed w d x) z (after w u drawn)) (sym t_is)
-          (later (handed w d x) refl refl has-handed))
+          taken-ok (hand_answer w d x) w t (after w u drawn) handed-goes
+          (subst (λ z. Becomes (hand_answer w d x) z (after w u drawn)) (sym t_is)
+          (later (hand_answer w d x) refl refl has-handed))
 
       pub handed-wants : (u : List Call) (drawn : ℕ) → KeepsEnded (slice_set calls d y) u
           → TakenAs w t (Err Memory) (after w u drawn)
@@ -338,19 +339,19 @@ module _ (w : World) (d : ℕ) (calls : List Call) (s : Supplied) (h : HasVisits
           (keeps-stage calls d x y is (ap (λ (z : Call). z.stage) marked)) kept))
 
     -- where the offers can't be copied
-    pub handed-fails : (t : Taken) (p : ℕ) (step_is : Step) (answer : StepAnswer)
+    pub handed-fails : (t : EventResult) (p : ℕ) (step_is : QuestionStep) (answer : StepAnswer)
         → t ≡ hand_on w d x p step_is answer → TakenAs w t (Err Memory) (after w calls s.drawn)
     handed-fails t p step_is answer t_is =
         taken-err w t (after w calls s.drawn)
         (subst Goes (sym t_is)
-        (resumed-goes (handed w d x) p step_is answer (slice_get (handed w d x).calls p)))
+        (resumed-goes (hand_answer w d x) p step_is answer (slice_get (hand_answer w d x).calls p)))
         (left-alone w t calls s calls s.drawn h (λ c v e. e))
 
 -- ---- an event as the network takes it
 
 -- what is done to the calls and words of a world is done to the network's
-pub as-world : (ts : List PlainTrader) (home : Address) (calls now : List Call) (clock : ℕ) (s z : Supplied)
-    (t : Taken) (r : Result Unit NetFault) → z.all ≡ s.all
+pub as-world : (ts : List PlainTrader) (home : Address) (calls now : List Call) (clock : ℕ) (s z : WordSupply)
+    (t : EventResult) (r : Result Unit NetFault) → z.all ≡ s.all
     → TakenAs (world ts home calls clock s.all s.drawn) t r
     (after (world ts home calls clock s.all s.drawn) now z.drawn)
     → TakenAs (world ts home calls clock s.all s.drawn) t r (world ts home now clock z.all z.drawn)

@@ -1,8 +1,8 @@
 -- A list of words without the zeros at its end.
 use Rattle.std.proofs.Common.{◌≡◌, ℕ, zero, suc, ◌+◌, List, [], ◌∷◌, ◌++◌, length, slice_index, refl, ap, ◌∙◌, arith}
-use Rattle.td_net.specs.Supplies.{IsTrimmed, before_trimmed, trimmed}
+use Rattle.td_net.specs.Supplies.{IsTrimmed, before_trimmed, without_zeros}
 
-pub without-zero : (ws : List ℕ) → trimmed (ws ++ 0 ∷ []) ≡ trimmed ws
+pub without-zero : (ws : List ℕ) → without_zeros (ws ++ 0 ∷ []) ≡ without_zeros ws
 without-zero [] = refl
 without-zero (w ∷ ws) = ap (before_trimmed w) (without-zero ws)
 
@@ -12,7 +12,7 @@ in-front (suc x) [] w = refl
 in-front zero (y ∷ ws) w = refl
 in-front (suc x) (y ∷ ws) w = refl
 
-pub as-it-is : (ws : List ℕ) (w : ℕ) → (w ≡ 0 → ⊥) → trimmed (ws ++ w ∷ []) ≡ ws ++ w ∷ []
+pub as-it-is : (ws : List ℕ) (w : ℕ) → (w ≡ 0 → ⊥) → without_zeros (ws ++ w ∷ []) ≡ ws ++ w ∷ []
 as-it-is [] zero h = absurd (h refl)
 as-it-is [] (suc w) h = refl
 as-it-is (x ∷ ws) w h = ap (before_trimmed x) (as-it-is ws w h) ∙ in-front x ws w
@@ -34,6 +34,6 @@ in-front-trimmed (suc n) (x ∷ ws) h = behind (suc n) x ws h
 none-left : IsTrimmed []
 none-left k e z = omega (arith, e)
 
-pub last_word : (ws : List ℕ) → IsTrimmed (trimmed ws)
+pub last_word : (ws : List ℕ) → IsTrimmed (without_zeros ws)
 last_word [] = none-left
-last_word (w ∷ ws) = in-front-trimmed w (trimmed ws) (last_word ws)
+last_word (w ∷ ws) = in-front-trimmed w (without_zeros ws) (last_word ws)

@@ -12,21 +12,21 @@ pub data Run : World → List Event → World → Type 0 where
       → Run w (e ∷ es) u
 
 -- and none of them is refused
-pub data Accepted : World → List Event → World → Type 0 where
-  none : {w : World} → Accepted w [] w
+pub data AcceptsAll : World → List Event → World → Type 0 where
+  none : {w : World} → AcceptsAll w [] w
   more : {w v u : World} {e : Event} {es : List Event} → fault_of w e ≡ None
-      → Becomes w (step_of w e) v → Accepted v es u → Accepted w (e ∷ es) u
+      → Becomes w (step_of w e) v → AcceptsAll v es u → AcceptsAll w (e ∷ es) u
 
--- the events before this one are accepted, and it is refused for this, or wants memory
+-- the events before this one are accepted, and it is refused for this, or runs out of memory
 pub record IsFirstRefused (w : World) (events : List Event) (place : ℕ)
     (f : NetFault) : Type 0 where
   pub before : World
-  pub accepted : Accepted w (take place events) before
+  pub accepted : AcceptsAll w (take place events) before
   pub event : Event
   pub stands : slice_get events place ≡ Some event
   pub refused : (fault_of before event ≡ Some f) ⊎ (f ≡ Memory)
 
 -- what a schedule comes to: each event is accepted in order, or this is the first that isn't
 abbrev pub IsChecked : World → List Event → Result Unit (ℕ × NetFault) → Type 0
-IsChecked w events (Ok x) = (u : World) × Accepted w events u
+IsChecked w events (Ok x) = (u : World) × AcceptsAll w events u
 IsChecked w events (Err p) = IsFirstRefused w events p.0 p.1

@@ -13,7 +13,7 @@ world_code trader address call =
     (coded× (coded_list trader)
     (coded× address (coded× (coded_list call)
     (coded× coded_ℕ (coded× (coded_list coded_ℕ) (coded× coded_ℕ coded_bool))))))
-    (λ w. (w.traders, (w.home, (w.calls, (w.clock, (w.words, (w.drawn, w.wanting)))))))
+    (λ w. (w.traders, (w.home, (w.calls, (w.clock, (w.words, (w.drawn, w.no_memory_outcome)))))))
     (λ p. record {
       traders = p.0;
       home = p.1.0;
@@ -21,6 +21,6 @@ world_code trader address call =
       clock = p.1.1.1.0;
       words = p.1.1.1.1.0;
       drawn = p.1.1.1.1.1.0;
-      wanting = p.1.1.1.1.1.1;
+      no_memory_outcome = p.1.1.1.1.1.1;
     })
     (λ _. refl)

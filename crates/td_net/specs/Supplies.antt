@@ -1,18 +1,18 @@
 -- Random words that lie in a list, of which so many were drawn.
 use Rattle.std.specs.Prelude.{◌≡◌, ℕ, zero, suc, ◌+◌, nat_le, if◌then◌else◌, List, [], ◌∷◌, length, slice_index, Option}
-use Rattle.td_out.specs.RandomWords.{Seeding}
+use Rattle.td_out.specs.RandomWords.{StreamSeed}
 
 -- The words, how many of them were drawn, and the last seeding, which changes none of them.
-pub record Supplied : Type 0 where
+pub record WordSupply : Type 0 where
   pub all : List ℕ
   pub drawn : ℕ
-  pub seeding : Option Seeding
+  pub seeding : Option StreamSeed
 
 -- the words to come; past the list's end words are 0
 abbrev pub words_from : List ℕ → (drawn : ℕ) → ℕ → ℕ
 words_from words drawn k = slice_index words (drawn + k)
 
-abbrev pub word_of : Supplied → ℕ → ℕ
+abbrev pub word_of : WordSupply → ℕ → ℕ
 word_of s = words_from s.all s.drawn
 
 -- how many were drawn once n more were; those past the list's end aren't counted
@@ -30,6 +30,6 @@ before_trimmed (suc n) [] = suc n ∷ []
 before_trimmed word (next ∷ words) = word ∷ next ∷ words
 
 -- without the zeros at the end
-abbrev pub trimmed : List ℕ → List ℕ
-trimmed [] = []
-trimmed (word ∷ words) = before_trimmed word (trimmed words)
+abbrev pub without_zeros : List ℕ → List ℕ
+without_zeros [] = []
+without_zeros (word ∷ words) = before_trimmed word (without_zeros words)

@@ -51,7 +51,7 @@ pub(crate) struct Delivery {
 
 /// What became of a question of a visit.
 #[derive(Drop)]
-pub(crate) enum Step {
+pub(crate) enum QuestionStep {
     /// Its target isn't of the network.
     Outside,
     /// Its evaluator has no IIOP profile.
@@ -78,7 +78,7 @@ pub(crate) struct Call {
     pub handed: bool,
     pub stage: Stage,
     pub delivery: Option<Delivery>,
-    pub steps: List<Step>,
+    pub steps: List<QuestionStep>,
     /// How many random words were drawn before it ended.
     pub drawn: usize,
 }
@@ -125,7 +125,7 @@ pub(crate) fn sent_to(
 
 impl Call {
     /// Writes down where its visit stands.
-    pub(crate) fn stand(&mut self, stage: Stage, steps: List<Step>)
+    pub(crate) fn stand(&mut self, stage: Stage, steps: List<QuestionStep>)
         ensures { self.new ≡ record self.old { stage = stage; steps = steps } }
     {
         self.stage = stage;
@@ -133,7 +133,7 @@ impl Call {
     }
 
     /// Ends it, with its steps and the number of words that were drawn before.
-    pub(crate) fn end(&mut self, visit: Boxed<Visit>, steps: List<Step>, drawn: usize)
+    pub(crate) fn end(&mut self, visit: Boxed<Visit>, steps: List<QuestionStep>, drawn: usize)
         ensures { self.new ≡ record self.old { stage = Ended visit; steps = steps; drawn = drawn } }
     {
         self.stage = Stage::Ended(visit);
@@ -164,7 +164,7 @@ impl Call {
     }
 
     /// Takes out its visit, with its steps, where it waits for an answer.
-    pub(crate) fn take_visit(&mut self, alloc: Global) -> (Frame, List<Step>)
+    pub(crate) fn take_visit(&mut self, alloc: Global) -> (Frame, List<QuestionStep>)
         requires { is_some (frame_in self.old.stage) ≡ true }
         ensures taken { frame_in self.old.stage ≡ Some result.0 }
         ensures steps { result.1 ≡ self.old.steps }

@@ -46,7 +46,7 @@ pub enum NetFault {
     NoCall,
     /// The call isn't in the state that the event needs.
     WrongState,
-    /// Memory was wanting, for this event or for one before.
+    /// Memory ran out, for this event or for one before.
     Memory,
 }
 
@@ -55,7 +55,7 @@ pub enum NetFault {
 pub enum CallState {
     /// It hasn't come to its trader.
     Sent,
-    /// Its visit was about to go on when memory was wanting.
+    /// Its visit was about to go on when memory ran out.
     Running,
     /// Its visit waits for the call of this number.
     Waiting(usize),

@@ -3,13 +3,13 @@
 ghost use Rattle.std.specs.Prelude.{◌≡◌, IfOk, map};
 ghost use Rattle.std.specs.List.{position};
 ghost use Rattle.td_net.specs.Worlds.{inside, is_named};
-ghost use Rattle.td_places.specs.Targets.{lookup_of, place_of};
+ghost use Rattle.td_targets.specs.Targets.{lookup_of, place_of};
 ghost use Rattle.td_trader.specs.Solos.{solo_view};
 
 use std::alloc::Global;
 use td_cdr::Memory;
 use td_ior::{Kind, ObjectKey};
-use td_places::home_key;
+use td_targets::home_key;
 use td_trader::Trader;
 use td_value::Ior;
 use td_walk::Address;
@@ -26,7 +26,7 @@ impl Group {
     ///
     /// # Errors
     ///
-    /// `Memory` for want of memory alone.
+    /// `Memory` only when out of memory.
     pub(crate) fn inside(&self, alloc: Global, target: &Ior) -> Result<Option<usize>, Memory>
         ensures { IfOk result (λ k. k ≡ inside self.now.traders.items self.now.home target.now) }
     {

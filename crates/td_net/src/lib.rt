@@ -2,6 +2,7 @@
 //! a call of a trader or of a visit (OMG's Trading Object Service, "Link Follow Behavior").
 #![tactic(auto)]
 
+mod advancing;
 mod beginning;
 mod call;
 mod event;
@@ -10,10 +11,9 @@ mod net;
 mod placing;
 mod resuming;
 mod schedule;
-mod settling;
 mod supply;
 
+pub use advancing::Pending;
 pub use event::{CallState, Event, NetFault};
 pub use net::Net;
 pub use schedule::check_schedule;
-pub use settling::Pending;

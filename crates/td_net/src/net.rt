@@ -1,7 +1,7 @@
 //! A network of traders.
 
 ghost use Rattle.std.specs.Prelude.{◌≡◌, length, slice_get, Some, None, option_copied, false};
-ghost use Rattle.td_net.specs.Supplies.{trimmed};
+ghost use Rattle.td_net.specs.Supplies.{without_zeros};
 ghost use Rattle.td_net.specs.Worlds.{OnAs, TakenAs, start, state_at, state_in, step_of, visit_at, visit_in};
 ghost use Rattle.td_net.specs.Worlds.{wants, world_of};
 
@@ -26,7 +26,7 @@ pub struct Net {
     group: Group,
     visits: Visits,
     clock: u64,
-    wanting: bool,
+    no_memory_outcome: bool,
 }
 
 impl Model for Net {
@@ -47,7 +47,7 @@ impl Model for Net {
       clock = n.clock;
       words = n.visits.words.all;
       drawn = n.visits.words.drawn;
-      wanting = n.wanting;
+      no_memory_outcome = n.no_memory_outcome;
     } };
 }
 
@@ -56,7 +56,7 @@ impl Net {
     /// host and port of `home`. Answers that are ranked at random draw these words in the order in which they are
     /// made, and then 0 for ever.
     pub fn new(alloc: Global, traders: List<Trader>, home: Address, words: List<u64>) -> Net
-        ensures { result ≡ start traders home (trimmed words) }
+        ensures { result ≡ start traders home (without_zeros words) }
     {
         Net {
             alloc,
@@ -69,7 +69,7 @@ impl Net {
                 words: Supply::new(words),
             },
             clock: 0,
-            wanting: false,
+            no_memory_outcome: false,
         }
     }
 
@@ -78,13 +78,13 @@ impl Net {
     /// # Errors
     ///
     /// `NoTrader` and `NoCall` exactly for a number that isn't there, `WrongState` exactly where the call isn't in the
-    /// state that the event needs; nothing is changed then. `Memory` for want of memory: the traders are as before the
+    /// state that the event needs; nothing is changed then. `Memory` when out of memory: the traders are as before the
     /// event or as behind it, and calls that had ended stay so. Every further event is answered `Memory`, and changes
     /// nothing.
     pub fn on(&mut self, event: Event) -> Result<(), NetFault>
         ensures { OnAs self.old event result self.new }
     {
-        if self.wanting {
+        if self.no_memory_outcome {
             return Err(NetFault::Memory);
         }
         let Net {
@@ -92,10 +92,10 @@ impl Net {
             group,
             visits,
             clock,
-            wanting,
+            no_memory_outcome,
         } = self;
         let taken = take_event(*alloc, clock, group, visits, event);
-        *wanting = wants(&taken);
+        *no_memory_outcome = wants(&taken);
         taken
     }
 
@@ -131,7 +131,7 @@ impl Net {
     }
 }
 
-/// Takes an event, where none wanted memory before.
+/// Takes an event, where none ran out of memory before.
 fn take_event(
     alloc: Global,
     clock: &mut u64,
@@ -156,7 +156,7 @@ fn take_event(
     }
 }
 
-/// Whether an event wanted memory.
+/// Whether an event ran out of memory.
 fn wants(taken: &Result<(), NetFault>) -> bool
     ensures { result ≡ wants taken.now }
 {

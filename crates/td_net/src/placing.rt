@@ -6,9 +6,9 @@ ghost use Rattle.td_net.specs.declared.call.Call.{Call as Opened};
 ghost use Rattle.td_walk.specs.Visits.{next_of};
 ghost use Rattle.td_walk.specs.declared.answer.Next.TheVariants.{Done};
 
-use crate::call::{Call, Stage, Step, sent_to};
+use crate::advancing::{Pending, advance};
+use crate::call::{Call, QuestionStep, Stage, sent_to};
 use crate::group::Group;
-use crate::settling::{Pending, settle};
 use crate::supply::Supply;
 use std::alloc::Global;
 use td_cdr::{Boxed, List, Memory, Shared};
@@ -28,14 +28,14 @@ pub(crate) struct Visits {
 ///
 /// # Errors
 ///
-/// `Memory` for want of memory alone. The calls are then as they were.
+/// `Memory` only when out of memory. The calls are then as they were.
 pub(crate) fn go_on(
     alloc: Global,
     group: &Group,
     visits: &mut Visits,
     call: usize,
     frame: Frame,
-    steps: List<Step>,
+    steps: List<QuestionStep>,
 ) -> Result<(), Memory>
     requires { call < length visits.old.calls.items }
     ensures becomes { OnOk result ((k : Opened) (w : World) → slice_get visits.old.calls.items call
@@ -48,7 +48,7 @@ pub(crate) fn go_on(
 {
     let mut frame = frame;
     let mut steps = steps;
-    match settle(alloc, group, &mut frame, &mut steps)? {
+    match advance(alloc, group, &mut frame, &mut steps)? {
         Pending::Nothing => end(alloc, visits, call, frame, steps),
         Pending::Value => {
             visits.calls[call].stand(Stage::Evaluating(frame), steps);
@@ -68,7 +68,7 @@ fn end(
     visits: &mut Visits,
     call: usize,
     frame: Frame,
-    steps: List<Step>,
+    steps: List<QuestionStep>,
 ) -> Result<(), Memory>
     requires call { call < length visits.old.calls.items }
     requires done { next_of frame.local frame.answers ≡ Done }

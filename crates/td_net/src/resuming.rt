@@ -3,12 +3,12 @@
 ghost use Rattle.std.specs.Prelude.{◌≡◌, ◌<◌, length, slice_get, Some, IfOk, OnOk, OnErr, is_some, true};
 ghost use Rattle.td_net.specs.Worlds.{Becomes, HasGroup, HasVisits, KeepsEnded, TakenAs, World, after, answer_at};
 ghost use Rattle.td_net.specs.Worlds.{evaluates, frame_in, lose_at};
-ghost use Rattle.td_net.specs.Worlds.{resumed, takes, value_answer, value_at, value_step, waits};
+ghost use Rattle.td_net.specs.Worlds.{resume_caller, takes, value_answer, value_at, value_step, waits};
 ghost use Rattle.td_net.specs.declared.call.Call.{Call as Opened};
-ghost use Rattle.td_visit.specs.Standing.{Standing};
-ghost use Rattle.td_walk_laws.specs.Walks.{answer_in, nothing};
+ghost use Rattle.td_visit.specs.Standing.{FrameState};
+ghost use Rattle.td_query_walk.specs.Walks.{answer_in, no_offers};
 
-use crate::call::{Stage, Step};
+use crate::call::{QuestionStep, Stage};
 use crate::event::NetFault;
 use crate::group::Group;
 use crate::placing::{Visits, go_on};
@@ -22,19 +22,19 @@ use td_walk::{StepAnswer, SubAnswer, Visit};
 ///
 /// # Errors
 ///
-/// `Memory` for want of memory alone.
+/// `Memory` only when out of memory.
 fn resume(
     alloc: Global,
     group: &Group,
     visits: &mut Visits,
     call: usize,
-    step: Step,
+    step: QuestionStep,
     answer: StepAnswer,
 ) -> Result<(), Memory>
     requires call { call < length visits.old.calls.items }
     requires waits { (k : Opened) → slice_get visits.old.calls.items call ≡ Some k
         → is_some (frame_in k.stage) ≡ true }
-    ensures becomes { OnOk result ((k : Opened) (w : World) (f : Standing) →
+    ensures becomes { OnOk result ((k : Opened) (w : World) (f : FrameState) →
         slice_get visits.old.calls.items call ≡ Some k → frame_in k.stage ≡ Some f
         → HasGroup w group.now.traders.items group.now.home
         → HasVisits w visits.old.calls.items visits.old.words
@@ -63,12 +63,12 @@ fn evaluates(stage: &Stage) -> bool
     matches!(stage, Stage::Evaluating(_))
 }
 
-fn value_step(value: &Option<Boxed<Any>>) -> Step
+fn value_step(value: &Option<Boxed<Any>>) -> QuestionStep
     ensures { result ≡ value_step value.now }
 {
     match value {
-        None => Step::Unvalued,
-        Some(value) => Step::Valued(Snapshot::of(value.get())),
+        None => QuestionStep::Unvalued,
+        Some(value) => QuestionStep::Valued(Snapshot::of(value.get())),
     }
 }
 
@@ -114,12 +114,12 @@ fn give(
     group: &Group,
     visits: &mut Visits,
     caller: usize,
-    step: Step,
+    step: QuestionStep,
     answer: StepAnswer,
 ) -> Result<(), Memory>
     ensures becomes { OnOk result ((w : World) → HasGroup w group.now.traders.items group.now.home
         → HasVisits w visits.old.calls.items visits.old.words
-        → Becomes w (resumed w caller step answer (slice_get w.calls caller))
+        → Becomes w (resume_caller w caller step answer (slice_get w.calls caller))
         (after w visits.new.calls.items visits.new.words.drawn)) }
     ensures words { visits.new.words.all ≡ visits.old.words.all }
     ensures kept { OnErr result (KeepsEnded visits.old.calls.items visits.new.calls.items) }
@@ -132,7 +132,7 @@ fn give(
 
 /// No offers and no limits.
 pub(crate) fn nothing(alloc: Global) -> SubAnswer
-    ensures { result ≡ nothing }
+    ensures { result ≡ no_offers }
 {
     SubAnswer {
         offers: List::new(alloc),
@@ -184,7 +184,7 @@ pub(crate) fn answer(
         group,
         visits,
         caller,
-        Step::Given(call),
+        QuestionStep::Given(call),
         StepAnswer::Offers(offers),
     ) {
         Ok(()) => Ok(()),
@@ -220,7 +220,7 @@ pub(crate) fn lose(
         group,
         visits,
         caller,
-        Step::Lost(call),
+        QuestionStep::Lost(call),
         StepAnswer::Failed,
     ) {
         Ok(()) => Ok(()),

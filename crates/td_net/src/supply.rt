@@ -1,8 +1,8 @@
 //! Random words that lie in a list, and how many of them were drawn.
 
 ghost use Rattle.std.specs.Prelude.{◌≡◌, ℕ, ◌+◌, ◌≤◌, length, Some, None};
-ghost use Rattle.td_net.specs.Supplies.{IsTrimmed, trimmed, word_of};
-ghost use Rattle.td_out.specs.RandomWords.{Seeding};
+ghost use Rattle.td_net.specs.Supplies.{IsTrimmed, without_zeros, word_of};
+ghost use Rattle.td_out.specs.RandomWords.{StreamSeed};
 
 use std::marker::Model;
 use td_cdr::List;
@@ -26,9 +26,9 @@ pub(crate) struct Supply {
 
 impl Model for Supply {
     ghost use Rattle.std.specs.Prelude.{◌≤◌, length, option_map};
-    ghost use Rattle.td_net.specs.Supplies.{IsTrimmed, Supplied};
+    ghost use Rattle.td_net.specs.Supplies.{IsTrimmed, WordSupply};
 
-    ghost Value = { Supplied };
+    ghost Value = { WordSupply };
 
     ghost view = { λ s. record {
       all = s.all.items;
@@ -43,7 +43,7 @@ impl Supply {
     /// These words, of which none was drawn. Zeros at the end are left out, since 0 comes behind them.
     #[tactic(auto, using(crate::proofs::Trimming::last_word))]
     pub(crate) fn new(words: List<u64>) -> Supply
-        ensures { result ≡ record { all = trimmed words; drawn = 0; seeding = None } }
+        ensures { result ≡ record { all = without_zeros words; drawn = 0; seeding = None } }
     {
         Supply {
             all: trim(words.into_vec()),
@@ -64,7 +64,7 @@ impl Supply {
 
 /// Words without the zeros at the end.
 fn trim(mut words: Vec<u64>) -> Vec<u64>
-    ensures { result.items ≡ trimmed words.items }
+    ensures { result.items ≡ without_zeros words.items }
 {
     loop {
         match words.pop() {

@@ -3,7 +3,7 @@ use Rattle.std.proofs.Common.{◌≡◌, ℕ, suc, ◌+◌, ◌≤◌, Bool, tru
 use Rattle.std.proofs.Common.{slice_get, Option, Some, None, Result, Ok, refl, sym, ap, ◌∙◌, subst, arith, codes}
 use Rattle.std.specs.Result.{result_unwrap_or}
 use Rattle.td_cdr.specs.Marks.{Marks}
-use Rattle.td_codes.specs.declared.reference.Ior.{Ior}
+use Rattle.td_typecode.specs.declared.reference.Ior.{Ior}
 use Rattle.td_lang.specs.Constraints.{constraint_of}
 use Rattle.td_lang.specs.Preferences.{preference_of}
 use Rattle.td_lang.specs.declared.expr.Constraint.TheVariants as constraint
@@ -12,24 +12,24 @@ use Rattle.td_net.specs.Supplies.{words_from}
 use Rattle.td_net.specs.Worlds.{delivery_of}
 use Rattle.td_net.specs.declared.call.Call.{Call}
 use Rattle.td_net.specs.declared.call.Delivery.{Delivery}
-use Rattle.td_net.specs.declared.call.Step.{Step}
-use Rattle.td_net.specs.declared.call.Step.TheVariants as step
+use Rattle.td_net.specs.declared.call.QuestionStep.{QuestionStep}
+use Rattle.td_net.specs.declared.call.QuestionStep.TheVariants as step
 use Rattle.td_net_examples.specs.Fixtures.{asks, asks_under}
 use Rattle.td_net_laws.specs.Arrivals.{Here, Way, head_of, identifier_at, search_at, way_by, way_of}
-use Rattle.td_net_laws.specs.Steps.{Answered, Asked, Opened, Told, given, lost, nothing_yet}
-use Rattle.td_net_laws.specs.Trees.{IsTree, TreeAt, TreeBy, visited}
+use Rattle.td_net_laws.specs.Steps.{GivesAnswer, AsksEach, IsSubCall, HasSteps, given, lost, nothing_yet}
+use Rattle.td_net_laws.specs.Trees.{IsTree, TreeAt, TreeBy, is_visited}
 use Rattle.td_ops.specs.declared.call.Query.{Query}
 use Rattle.td_policy.proofs.ReadBack.{number_back, octets_back, rule_back}
 use Rattle.td_policy.specs.Effective.{effective_of}
 use Rattle.td_policy.specs.Stated.{nothing, stated}
 use Rattle.td_policy.specs.declared.fault.PolicyFault.{PolicyFault}
 use Rattle.td_policy.specs.declared.stated.Stated.{Stated}
-use Rattle.td_register.specs.Causes.{Cause, given as where_given, ◌otherwise◌}
-use Rattle.td_register.specs.Named.{known}
+use Rattle.td_register.specs.Causes.{Cause, with_cause as where_given, ◌otherwise◌}
+use Rattle.td_register.specs.Named.{type_found}
 use Rattle.td_register.specs.Registers.{asked_in, no_more}
 use Rattle.td_register.specs.Stores.{Store}
 use Rattle.td_store.specs.declared.local.Local.{Local}
-use Rattle.td_trader.specs.Beginning.{identified}
+use Rattle.td_trader.specs.Beginning.{query_identifier}
 use Rattle.td_trader.specs.PlainTraders.{PlainTrader, store_of}
 use Rattle.td_trader.specs.Queries.{others_cause, path_link, preferred_in, refusal, unless_fault}
 use Rattle.td_trader.specs.Serving.{candidates_of, local_of}
@@ -40,7 +40,7 @@ use Rattle.td_walk.specs.declared.answer.Next.TheVariants.{Done, Forward}
 use Rattle.td_walk.specs.declared.answer.StepAnswer.{StepAnswer}
 use Rattle.td_walk.specs.declared.answer.StepAnswer.TheVariants as answer
 use Rattle.td_walk.specs.declared.answer.SubAnswer.{SubAnswer}
-use Rattle.td_walk_laws.specs.Walks.{nothing as no_offers}
+use Rattle.td_query_walk.specs.Walks.{no_offers as no_offers}
 
 -- ---- what the queries state
 
@@ -72,7 +72,7 @@ served s point m q r =
       mark = m.count + 1;
       path = None;
       query = q;
-      identifier = Some (identified m s.attributes.request_id_stem says.request_id).identifier;
+      identifier = Some (query_identifier m s.attributes.request_id_stem says.request_id).identifier;
       stated = says;
       effective = effective_of says s.attributes;
       attributes = s.attributes;
@@ -97,13 +97,13 @@ unfolding identifier_at
 identifier-is t identifier hops card few =
     ap
     (λ (r : Result Stated PolicyFault).
-    (identified t.marks (store_of t).attributes.request_id_stem (result_unwrap_or r nothing).request_id).identifier)
+    (query_identifier t.marks (store_of t).attributes.request_id_stem (result_unwrap_or r nothing).request_id).identifier)
     (asks-states identifier hops card few)
 
 -- why a query is refused, if it is
 abbrev pub cause_at : PlainTrader → Query → Result Stated PolicyFault → Cause
 cause_at t q r =
-    where_given (known (store_of t).types.types q.service_type) no_more
+    where_given (type_found (store_of t).types.types q.service_type) no_more
     otherwise (where_given (asked_in q.constraint) no_more
     otherwise where_given (preferred_in q.preference) no_more
     otherwise where_given (unless_fault r) no_more)
@@ -131,7 +131,7 @@ is-here t hops card way = way-is t (asks hops card) (Ok (states (codes "q") hops
 
 -- a call that was opened by another one
 pub opened : (calls : List Call) (c d : ℕ) (o : Call) → slice_get calls d ≡ Some o → o.caller ≡ Some c
-    → Opened calls c o.target o.query d
+    → IsSubCall calls c o.target o.query d
 opened calls c d o is by = record { call = o; is = is; at = refl; asks = refl; by = by }
 
 module _ (calls : List Call) (inside : Ior → Option ℕ) (words : List ℕ) (f c : ℕ) (k : Call) (t : PlainTrader)
@@ -149,15 +149,15 @@ module _ (calls : List Call) (inside : Ior → Option ℕ) (words : List ℕ) (f
       ∙ search-is t (asks hops card) (Ok (states (codes "q") hops card)) (asks-states (codes "q") hops card (omega arith))
 
   -- from what it gives where it visits its trader, for the first time or again
-  by-visit : (a : SubAnswer) (b : Bool) → visited (map head_of calls) k.target k.root serial ≡ not b
-      → Answered calls inside c Sub words k t a Here b → IsTree (suc f) calls inside words c a
+  by-visit : (a : SubAnswer) (b : Bool) → is_visited (map head_of calls) k.target k.root serial ≡ not b
+      → GivesAnswer calls inside c Sub words k t a Here b → IsTree (suc f) calls inside words c a
   by-visit a b before gives =
-      let flipped : not (visited (map head_of calls) k.target k.root serial) ≡ b = ap not before ∙ twice b in
-      let by_way : Answered calls inside c Sub words k t a (way_of t k.query) b =
-      subst (λ (w : Way). Answered calls inside c Sub words k t a w b) (sym here) gives in
-      let by_marks : Answered calls inside c Sub words k t a (way_of t k.query)
-      (not (visited (map head_of calls) k.target k.root serial)) =
-      subst (λ (x : Bool). Answered calls inside c Sub words k t a (way_of t k.query) x) (sym flipped) by_way in
+      let flipped : not (is_visited (map head_of calls) k.target k.root serial) ≡ b = ap not before ∙ twice b in
+      let by_way : GivesAnswer calls inside c Sub words k t a (way_of t k.query) b =
+      subst (λ (w : Way). GivesAnswer calls inside c Sub words k t a w b) (sym here) gives in
+      let by_marks : GivesAnswer calls inside c Sub words k t a (way_of t k.query)
+      (not (is_visited (map head_of calls) k.target k.root serial)) =
+      subst (λ (x : Bool). GivesAnswer calls inside c Sub words k t a (way_of t k.query) x) (sym flipped) by_way in
       let by_delivery : TreeBy calls inside c Sub words a k k.delivery =
       subst (λ (d : Option Delivery). TreeBy calls inside c Sub words a k d) (sym delivered) by_marks in
       subst (TreeAt calls inside c Sub words a) (sym is) by_delivery
@@ -167,71 +167,71 @@ module _ (calls : List Call) (inside : Ior → Option ℕ) (words : List ℕ) (f
       twice false = refl
 
   -- one that comes to a trader that was visited has nothing
-  pub repeat-tree : visited (map head_of calls) k.target k.root serial ≡ true
+  pub repeat-tree : is_visited (map head_of calls) k.target k.root serial ≡ true
       → IsTree (suc f) calls inside words c no_offers
   repeat-tree before = by-visit no_offers false before refl
 
   -- one that comes to a new one has the answer of its questions
-  pub new-tree : (a : SubAnswer) → visited (map head_of calls) k.target k.root serial ≡ false
-      → Asked calls inside c Sub words k a (local t hops card) → IsTree (suc f) calls inside words c a
+  pub new-tree : (a : SubAnswer) → is_visited (map head_of calls) k.target k.root serial ≡ false
+      → AsksEach calls inside c Sub words k a (local t hops card) → IsTree (suc f) calls inside words c a
   new-tree a before questions =
-      by-visit a true before (subst (λ (l : Local). Asked calls inside c Sub words k a l) (sym at-search) questions)
+      by-visit a true before (subst (λ (l : Local). AsksEach calls inside c Sub words k a l) (sym at-search) questions)
 
   -- no question
-  pub none-tree : (a : SubAnswer) → visited (map head_of calls) k.target k.root serial ≡ false → k.steps ≡ []
+  pub none-tree : (a : SubAnswer) → is_visited (map head_of calls) k.target k.root serial ≡ false → k.steps ≡ []
       → next_of (local t hops card) [] ≡ Done → IsAnswer (local t hops card) [] (words_from words k.drawn) a
       → IsTree (suc f) calls inside words c a
   none-tree a before steps done gives =
       new-tree a before
       (record {
         answers = [];
-        told = subst (λ (ss : List Step). Told calls inside c (local t hops card) Sub [] ss) (sym steps) nothing_yet;
+        content = subst (λ (ss : List QuestionStep). HasSteps calls inside c (local t hops card) Sub [] ss) (sym steps) nothing_yet;
         none_left = done;
         is_answer = gives;
       })
 
   -- what came of the first question
-  abbrev pub FirstTold : Step → StepAnswer → Type 0
-  FirstTold s r = Told calls inside c (local t hops card) Sub (r ∷ []) (s ∷ [])
+  abbrev pub AnswersFirst : QuestionStep → StepAnswer → Type 0
+  AnswersFirst s r = HasSteps calls inside c (local t hops card) Sub (r ∷ []) (s ∷ [])
 
   pub first-given : (d place : ℕ) (other : Ior) (q : Query) (b : SubAnswer)
-      → next_of (local t hops card) [] ≡ Forward other q → inside other ≡ Some place → Opened calls c place q d
-      → IsTree f calls inside words d b → FirstTold (step.Given d) (answer.Offers b)
+      → next_of (local t hops card) [] ≡ Forward other q → inside other ≡ Some place → IsSubCall calls c place q d
+      → IsTree f calls inside words d b → AnswersFirst (step.Given d) (answer.Offers b)
   first-given d place other q b asks_other within opened tree = given nothing_yet asks_other within opened tree
 
   pub first-lost : (d place : ℕ) (other : Ior) (q : Query) → next_of (local t hops card) [] ≡ Forward other q
-      → inside other ≡ Some place → Opened calls c place q d → FirstTold (step.Lost d) answer.Failed
+      → inside other ≡ Some place → IsSubCall calls c place q d → AnswersFirst (step.Lost d) answer.Failed
   first-lost d place other q asks_other within opened = lost nothing_yet asks_other within opened
 
   -- one question
-  pub once-tree : (a : SubAnswer) (s : Step) (r : StepAnswer)
-      → visited (map head_of calls) k.target k.root serial ≡ false → k.steps ≡ s ∷ [] → FirstTold s r
+  pub once-tree : (a : SubAnswer) (s : QuestionStep) (r : StepAnswer)
+      → is_visited (map head_of calls) k.target k.root serial ≡ false → k.steps ≡ s ∷ [] → AnswersFirst s r
       → next_of (local t hops card) (r ∷ []) ≡ Done → IsAnswer (local t hops card) (r ∷ []) (words_from words k.drawn) a
       → IsTree (suc f) calls inside words c a
-  once-tree a s r before steps told done gives =
+  once-tree a s r before steps content done gives =
       new-tree a before
       (record {
         answers = r ∷ [];
-        told = subst (λ (ss : List Step). Told calls inside c (local t hops card) Sub (r ∷ []) ss) (sym steps) told;
+        content = subst (λ (ss : List QuestionStep). HasSteps calls inside c (local t hops card) Sub (r ∷ []) ss) (sym steps) content;
         none_left = done;
         is_answer = gives;
       })
 
   -- two questions
-  pub twice-tree : (a : SubAnswer) (s : Step) (r : StepAnswer) (d place : ℕ) (other : Ior) (q : Query) (b : SubAnswer)
-      → visited (map head_of calls) k.target k.root serial ≡ false → k.steps ≡ s ∷ step.Given d ∷ []
-      → FirstTold s r → next_of (local t hops card) (r ∷ []) ≡ Forward other q → inside other ≡ Some place
-      → Opened calls c place q d → IsTree f calls inside words d b
+  pub twice-tree : (a : SubAnswer) (s : QuestionStep) (r : StepAnswer) (d place : ℕ) (other : Ior) (q : Query) (b : SubAnswer)
+      → is_visited (map head_of calls) k.target k.root serial ≡ false → k.steps ≡ s ∷ step.Given d ∷ []
+      → AnswersFirst s r → next_of (local t hops card) (r ∷ []) ≡ Forward other q → inside other ≡ Some place
+      → IsSubCall calls c place q d → IsTree f calls inside words d b
       → next_of (local t hops card) (r ∷ answer.Offers b ∷ []) ≡ Done
       → IsAnswer (local t hops card) (r ∷ answer.Offers b ∷ []) (words_from words k.drawn) a
       → IsTree (suc f) calls inside words c a
-  twice-tree a s r d place other q b before steps told asks_other within opened tree done gives =
-      let both : Told calls inside c (local t hops card) Sub (r ∷ answer.Offers b ∷ []) (s ∷ step.Given d ∷ []) =
-      given told asks_other within opened tree in
+  twice-tree a s r d place other q b before steps content asks_other within opened tree done gives =
+      let both : HasSteps calls inside c (local t hops card) Sub (r ∷ answer.Offers b ∷ []) (s ∷ step.Given d ∷ []) =
+      given content asks_other within opened tree in
       new-tree a before
       (record {
         answers = r ∷ answer.Offers b ∷ [];
-        told = subst (λ (ss : List Step). Told calls inside c (local t hops card) Sub (r ∷ answer.Offers b ∷ []) ss)
+        content = subst (λ (ss : List QuestionStep). HasSteps calls inside c (local t hops card) Sub (r ∷ answer.Offers b ∷ []) ss)
             (sym steps) both;
         none_left = done;
         is_answer = gives;

@@ -1,7 +1,7 @@
 //! Worked trees.
 
 ghost use Rattle.std.specs.Prelude.{ℕ, List, Option};
-ghost use Rattle.td_codes.specs.declared.reference.Ior.{Ior};
+ghost use Rattle.td_typecode.specs.declared.reference.Ior.{Ior};
 ghost use Rattle.td_net_examples.specs.Fixtures.{AreInside};
 ghost use Rattle.td_net_examples.specs.Trees.{WorkedChanges, WorkedDiamond, WorkedReturn, WorkedRing, WorkedStop};
 

@@ -1,7 +1,7 @@
 //! What comes of an Ask where one of the premises on its identifier doesn't hold.
 
 ghost use Rattle.std.specs.Prelude.{ℕ, List};
-ghost use Rattle.td_codes.specs.declared.reference.Ior.{Ior};
+ghost use Rattle.td_typecode.specs.declared.reference.Ior.{Ior};
 ghost use Rattle.td_net_examples.specs.Without.{AreLookups, WithoutAlone, WithoutFresh, WithoutRemembered};
 ghost use Rattle.td_walk.specs.declared.trace.Address.{Address};
 

@@ -13,8 +13,9 @@ use Rattle.td_net_laws.proofs.Marking.{Marking}
 use Rattle.td_net_laws.proofs.Moving.{Marked, head-get, marks_of, run-kept}
 use Rattle.td_net_laws.proofs.Points.{past-is}
 use Rattle.td_net_laws.proofs.Places.{from_map}
-use Rattle.td_net_laws.specs.Always.{Always, AreApart, AreFar, AreRead, IsSearched}
-use Rattle.td_net_laws.specs.Arrivals.{Arrival, At, Head, arrival_of, arrived, head_of, identifier_at, search_at}
+use Rattle.td_net_laws.specs.Always.{Always, MarksAreApart, AreFar, AreRead, CallSearched}
+use Rattle.td_net_laws.specs.Arrivals.{Arrival, ArrivesAt, CallHead, arrival_of, arrival_at_delivery, head_of}
+use Rattle.td_net_laws.specs.Arrivals.{identifier_at, search_at}
 use Rattle.td_ops.specs.declared.call.Query.{Query}
 use Rattle.td_store.specs.declared.local.Local.{Local}
 use Rattle.td_trader.specs.Beginning.{is_search}
@@ -42,7 +43,7 @@ marked-start ts home words r reached = record {
   seen = λ h d a. absurd (empty h d a);
 }
   where
-    empty : (h : Head) (d : Arrival) → At [] h d → ⊥
+    empty : (h : CallHead) (d : Arrival) → ArrivesAt [] h d → ⊥
     empty h d a = let x = a.is in absurd (cc)
 
 pub marked-always : Always (λ w. (base : List Marks) × Marked base 0 w)
@@ -50,11 +51,11 @@ marked-always ts home words events w reached run =
     (map marks_of ts, run-kept (map marks_of ts) 0 (marked-start ts home words 0 reached) run)
 
 pub call-at : (calls : List Call) (c : ℕ) (k : Call) (d : Delivery) → slice_get calls c ≡ Some k
-    → k.delivery ≡ Some d → At (map head_of calls) (head_of k) (arrival_of k.query d)
+    → k.delivery ≡ Some d → ArrivesAt (map head_of calls) (head_of k) (arrival_of k.query d)
 call-at calls c k d is delivered = record {
   place = c;
   is = head-get calls c k is;
-  has_arrived = ap (arrived k.query) delivered;
+  has_arrived = ap (arrival_at_delivery k.query) delivered;
 }
 
 -- what a search is, read off its call
@@ -81,7 +82,7 @@ found k d l identifier r begun named =
 three : (x y : ℕ) → (x < y) ⊎ ((y < x) ⊎ (x ≡ y))
 three x y = grind arith
 
-pub apart : Always AreApart
+pub apart : Always MarksAreApart
 unfolding call-at
 apart ts home words events w reached run i j h g d e k l identifier differ a b targets named also =
     go (three (arrival_of h.query d).serial (arrival_of g.query e).serial)
@@ -92,10 +93,10 @@ apart ts home words events w reached run i j h g d e k l identifier differ a b t
     m : Marking (map marks_of ts) 0 (map marks_of w.traders) (map head_of w.calls) w.clock
     m = s.marking
 
-    at_h : At (map head_of w.calls) (head_of h) (arrival_of h.query d)
+    at_h : ArrivesAt (map head_of w.calls) (head_of h) (arrival_of h.query d)
     at_h = call-at w.calls i h d a.is a.delivered
 
-    at_g : At (map head_of w.calls) (head_of g) (arrival_of g.query e)
+    at_g : ArrivesAt (map head_of w.calls) (head_of g) (arrival_of g.query e)
     at_g = call-at w.calls j g e b.is b.delivered
 
     marks : (n : Marks) × (slice_get (map marks_of w.traders) h.target ≡ Some n)

@@ -3,10 +3,11 @@
 use Rattle.std.proofs.Common.{◌≡◌, ℕ, ◌+◌, ◌<◌, ◌≤◌, Bool, true, false, List, [], ◌∷◌, ◌++◌, length, Option, Some}
 use Rattle.std.proofs.Common.{None}
 use Rattle.std.proofs.Common.{Ok, refl, sym, ap, subst, ◌∙◌, ◌⊎◌, inl, inr, arith}
-use Rattle.td_cdr.specs.Marks.{Marks, Holds, marked}
+use Rattle.td_cdr.specs.Marks.{Marks, RemembersAs, add_mark}
 use Rattle.td_cdr.proofs.Marking.{newest, no_other, stays_remembered}
-use Rattle.td_codes.specs.declared.reference.Ior.{Ior}
-use Rattle.td_net_laws.specs.Arrivals.{Way, Nowhere, Along, Here, IsRead, way_by, way_of, identifier_at, is_here}
+use Rattle.td_typecode.specs.declared.reference.Ior.{Ior}
+use Rattle.td_net_laws.specs.Arrivals.{Way, Nowhere, Along, Here, HasReadPolicies, way_by, way_of, identifier_at}
+use Rattle.td_net_laws.specs.Arrivals.{is_here}
 use Rattle.td_net_laws.specs.Arrivals.{path_at, search_at, stated_identifier}
 use Rattle.td_ops.specs.declared.call.Query.{Query}
 use Rattle.td_ops.specs.declared.outcome.Outcome.{Outcome}
@@ -17,7 +18,7 @@ use Rattle.td_store.specs.declared.local.Local.{Local}
 use Rattle.td_store.specs.declared.record.LinkRecord.{LinkRecord}
 use Rattle.td_trader.proofs.Begun.{are_passed_on, are_served, only_searches}
 use Rattle.td_trader.proofs.Taken.{taken_are_read}
-use Rattle.td_trader.specs.Beginning.{Begins as BeginsSo, after_begin as marks_after, identified, is_search}
+use Rattle.td_trader.specs.Beginning.{Begins as BeginsSo, after_begin as marks_after, query_identifier, is_search}
 use Rattle.td_trader.specs.Beginning.{searched_under}
 use Rattle.td_trader.specs.PlainTraders.{PlainTrader, after_begin, begin_at, store_of}
 use Rattle.td_trader.specs.Queries.{parts_of, path_link, refusal}
@@ -31,10 +32,10 @@ use Rattle.td_walk.specs.Visits.{next_of}
 use Rattle.td_walk.specs.declared.answer.Next.TheVariants.{Done, Forward}
 use Rattle.td_walk.specs.declared.answer.StepAnswer.{StepAnswer}
 use Rattle.td_walk.specs.declared.answer.SubAnswer.{SubAnswer}
-use Rattle.td_walk_laws.proofs.Carrying.{state}
-use Rattle.td_walk_laws.proofs.Spending.{asked_before, ends}
-use Rattle.td_walk_laws.specs.Reach.{turns_by, turns_of}
-use Rattle.td_walk_laws.specs.SubQueryLaws.{StatesIdentifier}
+use Rattle.td_query_walk.proofs.Carrying.{state}
+use Rattle.td_query_walk.proofs.Spending.{asked_before, ends}
+use Rattle.td_query_walk.specs.Reach.{turns_by, turns_of}
+use Rattle.td_query_walk.specs.SubQueryLaws.{StatesIdentifier}
 
 -- ---- how a query begins
 
@@ -42,9 +43,9 @@ use Rattle.td_walk_laws.specs.SubQueryLaws.{StatesIdentifier}
 pub data Begins (t : PlainTrader) (q : Query) : Begin → Type 0 where
   refused : (o : Outcome) → way_of t q ≡ Nowhere → Begins t q (begin.Refused o)
   along : (link : LinkRecord) → way_of t q ≡ Along link → Begins t q (begin.Path (path_at t link q))
-  repeats : (number : ℕ) → way_of t q ≡ Here → Holds t.marks (identifier_at t q) number
+  repeats : (number : ℕ) → way_of t q ≡ Here → RemembersAs t.marks (identifier_at t q) number
       → Begins t q (begin.Repeat number)
-  searches : way_of t q ≡ Here → ((number : ℕ) → Holds t.marks (identifier_at t q) number → ⊥)
+  searches : way_of t q ≡ Here → ((number : ℕ) → RemembersAs t.marks (identifier_at t q) number → ⊥)
       → Begins t q (begin.Search (search_at t q))
 
 module _ (t : PlainTrader) (q : Query) where
@@ -58,9 +59,9 @@ module _ (t : PlainTrader) (q : Query) where
 
   stated-is : (id : List ℕ) → (parts_of q).stated.request_id ≡ Some id → identifier_at t q ≡ id
   unfolding identifier_at
-  stated-is id e = ap (λ z. (identified t.marks (store_of t).attributes.request_id_stem z).identifier) e
+  stated-is id e = ap (λ z. (query_identifier t.marks (store_of t).attributes.request_id_stem z).identifier) e
 
-  searched-as : (l : Local) → ((n : ℕ) → Holds t.marks (searched_under (store_of t) t.marks q).identifier n → ⊥)
+  searched-as : (l : Local) → ((n : ℕ) → RemembersAs t.marks (searched_under (store_of t) t.marks q).identifier n → ⊥)
       → way_of t q ≡ Here
       → l ≡ local_of (store_of t) (length t.history) (t.marks.count + 1)
       (searched_under (store_of t) t.marks q).identifier q
@@ -74,7 +75,7 @@ module _ (t : PlainTrader) (q : Query) where
       subst (λ z. Begins t q (begin.Path z)) (sym h.served) (along h.link (way-is None (Some h.link) h.taken h.path))
   begins-by (begin.Repeat number) h =
       repeats number (way-is None None h.taken h.path)
-      (subst (λ z. Holds t.marks z number) (sym (stated-is h.identifier h.stated)) h.held)
+      (subst (λ z. RemembersAs t.marks z number) (sym (stated-is h.identifier h.stated)) h.held)
   begins-by (begin.Search l) h = searched-as l h.fresh (way-is None None h.taken h.path) h.served
 
   pub begins : IsReached t → Begins t q (begin_at t q)
@@ -86,9 +87,9 @@ module _ (t : PlainTrader) (q : Query) where
 pub record MarkedOnce (m : Marks) (id : List ℕ) (n : Marks) : Type 0 where
   pub count : n.count ≡ m.count + 1
   pub ring : n.ring ≡ m.ring
-  pub new : Holds n id (m.count + 1)
-  pub old : (i : List ℕ) (k : ℕ) → Holds n i k → Holds m i k ⊎ ((id ≡ i) × (m.count + 1 ≡ k))
-  pub kept : (i : List ℕ) (k : ℕ) → m.count + 1 < k + m.ring → Holds m i k → Holds n i k
+  pub new : RemembersAs n id (m.count + 1)
+  pub old : (i : List ℕ) (k : ℕ) → RemembersAs n i k → RemembersAs m i k ⊎ ((id ≡ i) × (m.count + 1 ≡ k))
+  pub kept : (i : List ℕ) (k : ℕ) → m.count + 1 < k + m.ring → RemembersAs m i k → RemembersAs n i k
 
 pub unmarked : (t : PlainTrader) (q : Query) (b : Begin) → is_search b ≡ false → (after_begin t q b).marks ≡ t.marks
 unmarked t q b other = only_searches (store_of t) t.marks q b other
@@ -115,13 +116,13 @@ marked-once t q (begin.Path l) r e = absurd (cc)
 marked-once t q (begin.Search l) r e = marked-by t q l r
 
 -- It marks nothing, and where it visits the trader its identifier is remembered; or it searches under one that isn't.
-pub data Begun (t : PlainTrader) (q : Query) (b : Begin) : Type 0 where
-  quiet : is_search b ≡ false → (is_here (way_of t q) ≡ true → (k : ℕ) × Holds t.marks (identifier_at t q) k)
-      → Begun t q b
+pub data IsBegun (t : PlainTrader) (q : Query) (b : Begin) : Type 0 where
+  quiet : is_search b ≡ false → (is_here (way_of t q) ≡ true → (k : ℕ) × RemembersAs t.marks (identifier_at t q) k)
+      → IsBegun t q b
   searching : is_search b ≡ true → is_here (way_of t q) ≡ true
-      → ((k : ℕ) → Holds t.marks (identifier_at t q) k → ⊥) → Begun t q b
+      → ((k : ℕ) → RemembersAs t.marks (identifier_at t q) k → ⊥) → IsBegun t q b
 
-pub begun : (t : PlainTrader) (q : Query) (b : Begin) → Begins t q b → Begun t q b
+pub begun : (t : PlainTrader) (q : Query) (b : Begin) → Begins t q b → IsBegun t q b
 begun t q _ (refused o way) = quiet refl (λ here. absurd (let e = ap is_here way in cc))
 begun t q _ (along link way) = quiet refl (λ here. absurd (let e = ap is_here way in cc))
 begun t q _ (repeats number way held) = quiet refl (λ here. (number, held))
@@ -156,8 +157,8 @@ module _ (t : PlainTrader) (q : Query) where
   taken-by (Some f) o e goes = absurd (goes refl)
 
   -- a query that isn't refused can be read
-  pub asked-read : (way_of t q ≡ Nowhere → ⊥) → IsRead q
-  unfolding way_of IsRead
+  pub asked-read : (way_of t q ≡ Nowhere → ⊥) → HasReadPolicies q
+  unfolding way_of HasReadPolicies
   asked-read goes =
       taken_are_read t.bounds t.marks.count (store_of t) q
       (taken-by (refusal t.bounds t.marks.count (store_of t) q)
@@ -170,8 +171,8 @@ module _ (t : PlainTrader) (q : Query) where
 -- ---- its questions
 
 pub search-carries : (t : PlainTrader) (q : Query) (rs : List StepAnswer) (target : Ior) (sub : Query)
-    → next_of (search_at t q) rs ≡ Forward target sub → IsRead sub → stated_identifier sub ≡ Some (identifier_at t q)
-unfolding IsRead stated_identifier
+    → next_of (search_at t q) rs ≡ Forward target sub → HasReadPolicies sub → stated_identifier sub ≡ Some (identifier_at t q)
+unfolding HasReadPolicies stated_identifier
 search-carries t q rs target sub asks read =
     let l : Local = search_at t q in
     let p = are_served (store_of t) (length t.history) (t.marks.count + 1) (identifier_at t q) q in
@@ -180,9 +181,9 @@ search-carries t q rs target sub asks read =
 
 pub path-carries : (t : PlainTrader) (link : LinkRecord) (q : Query) (rs : List StepAnswer) (target : Ior)
     (sub : Query)
-    → IsRead q → next_of (path_at t link q) rs ≡ Forward target sub → IsRead sub
+    → HasReadPolicies q → next_of (path_at t link q) rs ≡ Forward target sub → HasReadPolicies sub
     → stated_identifier sub ≡ stated_identifier q
-unfolding IsRead stated_identifier
+unfolding HasReadPolicies stated_identifier
 path-carries t link q rs target sub own asks read =
     let l : Local = path_at t link q in
     let p = are_passed_on (store_of t) (length t.history) link q in
@@ -216,13 +217,13 @@ carried true stated id = Some id
 carried false stated id = stated
 
 pub asks-read : (t : PlainTrader) (q : Query) (s : Bool) (l : Local) (y : Way) → way_of t q ≡ y → IsLocal y s t q l
-    → IsRead q
+    → HasReadPolicies q
 asks-read t q s l Nowhere way here = elim here [ ]
 asks-read t q s l (Along link) way here = asked-read t q (λ e. absurd (let bad = sym way ∙ e in cc))
 asks-read t q s l Here way here = asked-read t q (λ e. absurd (let bad = sym way ∙ e in cc))
 
 pub hands-on : (t : PlainTrader) (q : Query) (s : Bool) (l : Local) (y : Way) → way_of t q ≡ y → IsLocal y s t q l
-    → (rs : List StepAnswer) (target : Ior) (sub : Query) → next_of l rs ≡ Forward target sub → IsRead sub
+    → (rs : List StepAnswer) (target : Ior) (sub : Query) → next_of l rs ≡ Forward target sub → HasReadPolicies sub
     → stated_identifier sub ≡ carried (is_here y) (stated_identifier q) (identifier_at t q)
 hands-on t q s l Nowhere way here rs target sub asks read = elim here [ ]
 hands-on t q s l (Along link) way here rs target sub asks read =
@@ -241,7 +242,7 @@ asks-once t q s l Here here path rs below some = absurd (cc)
 
 -- ---- its answer
 
--- what the answers are one by: a law of td_walk_laws
+-- what the answers are one by: a law of td_query_walk
 abbrev pub AnswersAreOne : Type 0
 AnswersAreOne =
     (l : Local) (rs : List StepAnswer) (word : ℕ → ℕ) (a b : SubAnswer) → IsAnswer l rs word a → IsAnswer l rs word b

@@ -5,21 +5,22 @@ use Rattle.std.proofs.Common.{Some, None, is_some, Bool, true, false, refl, sym,
 use Rattle.std.proofs.Common.{◌⊎◌, inl, inr}
 use Rattle.std.proofs.lemmas.List.{length-set}
 use Rattle.std.proofs.lemmas.Option.{slice_get_within}
-use Rattle.td_codes.specs.declared.code.Any.{Any}
-use Rattle.td_codes.specs.declared.code.TypeCode.{TypeCode}
-use Rattle.td_codes.specs.declared.reference.Ior.{Ior}
+use Rattle.td_typecode.specs.declared.code.Any.{Any}
+use Rattle.td_typecode.specs.declared.code.TypeCode.{TypeCode}
+use Rattle.td_typecode.specs.declared.reference.Ior.{Ior}
 use Rattle.td_ior.specs.Profiles.{iiop_of}
-use Rattle.td_net.specs.Worlds.{World, Settled, Becomes, settle, settle_by, evaluate_by, forward_by, sent, waiting}
-use Rattle.td_net.specs.Worlds.{evaluating}
-use Rattle.td_net.specs.Worlds.{ending, answered, placed_by, goes_on, inside}
+use Rattle.td_net.specs.Worlds.{World, VisitProgress, Becomes, settle, settle_by, evaluate_by, forward_by, sent}
+use Rattle.td_net.specs.Worlds.{waiting_call}
+use Rattle.td_net.specs.Worlds.{evaluating_call}
+use Rattle.td_net.specs.Worlds.{ended_call, visit_answer, placed_by, goes_on, inside}
 use Rattle.td_net.specs.declared.call.Call.{Call}
 use Rattle.td_net.specs.declared.call.Delivery.{Delivery}
 use Rattle.td_net.specs.declared.call.Stage.{Stage}
 use Rattle.td_net.specs.declared.call.Stage.TheVariants.{Evaluating, Waiting, Ended}
-use Rattle.td_net.specs.declared.call.Step.{Step}
-use Rattle.td_net.specs.declared.call.Step.TheVariants as step
-use Rattle.td_net.specs.declared.settling.Pending.{Pending}
-use Rattle.td_net.specs.declared.settling.Pending.TheVariants as pending
+use Rattle.td_net.specs.declared.call.QuestionStep.{QuestionStep}
+use Rattle.td_net.specs.declared.call.QuestionStep.TheVariants as step
+use Rattle.td_net.specs.declared.advancing.Pending.{Pending}
+use Rattle.td_net.specs.declared.advancing.Pending.TheVariants as pending
 use Rattle.td_net_laws.proofs.Below.{IsLocal, asks-once, asks-read, carried, done-after, forward-before, hands-on}
 use Rattle.td_net_laws.proofs.Below.{identifier-stated}
 use Rattle.td_net_laws.proofs.Places.{get-set_same, get-set, get-more, get-last, get-append}
@@ -31,13 +32,14 @@ use Rattle.td_net_laws.proofs.Rights.{visits_by}
 use Rattle.td_net_laws.proofs.Waits.{Kids, NobodyFor, NoKids, Waits, WaitsAt, caller-old, kids-open, kids-set}
 use Rattle.td_net_laws.proofs.Waits.{waits-open}
 use Rattle.td_net_laws.proofs.Waits.{waits-set}
-use Rattle.td_net_laws.specs.Arrivals.{Way, Nowhere, Along, Here, IsRead, identifier_at, is_here, path_at, search_at}
+use Rattle.td_net_laws.specs.Arrivals.{Way, Nowhere, Along, Here, HasReadPolicies, identifier_at, is_here, path_at}
+use Rattle.td_net_laws.specs.Arrivals.{search_at}
 use Rattle.td_net_laws.specs.Arrivals.{stated_identifier, way_of}
-use Rattle.td_net_laws.specs.Steps.{Answered, Asked, EndedAs, Led, Opened, Told, outside, unreachable}
+use Rattle.td_net_laws.specs.Steps.{GivesAnswer, AsksEach, EndedAs, Led, IsSubCall, HasSteps, outside, unreachable}
 use Rattle.td_ops.specs.declared.call.Query.{Query}
 use Rattle.td_store.specs.declared.local.Local.{Local}
 use Rattle.td_trader.specs.PlainTraders.{PlainTrader}
-use Rattle.td_visit.specs.Standing.{Standing}
+use Rattle.td_visit.specs.Standing.{FrameState}
 use Rattle.td_walk.specs.Visits.{next_of}
 use Rattle.td_walk.specs.declared.answer.Next.{Next}
 use Rattle.td_walk.specs.declared.answer.Next.TheVariants.{Done, Evaluate, Forward}
@@ -45,24 +47,24 @@ use Rattle.td_walk.specs.declared.answer.StepAnswer.{StepAnswer}
 use Rattle.td_walk.specs.declared.answer.StepAnswer.TheVariants as given
 use Rattle.td_walk.specs.declared.answer.SubAnswer.{SubAnswer}
 use Rattle.td_walk.specs.declared.trace.Visit.{Visit}
-use Rattle.td_walk_laws.specs.Reach.{turns_of}
-use Rattle.td_walk_laws.specs.Walks.{answer_in}
+use Rattle.td_query_walk.specs.Reach.{turns_of}
+use Rattle.td_query_walk.specs.Walks.{answer_in}
 
 -- ---- where a visit stands still
 
 module _ (calls : List Call) (within : Ior → Option ℕ) (c : ℕ) (l : Local) (least : ℕ) where
-  abbrev pub SettledBy : List StepAnswer → List Step → Pending → Type 0
+  abbrev pub SettledBy : List StepAnswer → List QuestionStep → Pending → Type 0
   SettledBy rs ss pending.Nothing = Led calls within c l rs ss × (next_of l rs ≡ Done)
   SettledBy rs ss pending.Value = Led calls within c l rs ss × AsksValue l rs
   SettledBy rs ss (pending.SubQuery k q) =
       Led calls within c l rs ss × (target : Ior) × (next_of l rs ≡ Forward target q) × (within target ≡ Some k)
       × (least ≤ length rs)
 
-  abbrev pub SettledRight : Settled → Type 0
+  abbrev pub SettledRight : VisitProgress → Type 0
   SettledRight s = SettledBy s.answers s.steps s.pending
 
   module _ (inside : Ior → Option ℕ) (same : (x : Ior) → inside x ≡ within x) where
-    pub settle-right : (f : ℕ) (rs : List StepAnswer) (ss : List Step) → Led calls within c l rs ss
+    pub settle-right : (f : ℕ) (rs : List StepAnswer) (ss : List QuestionStep) → Led calls within c l rs ss
         → turns_of l ≤ length rs + f → least ≤ length rs → SettledRight (settle f inside l rs ss)
     settle-right zero rs ss led far from = (led, done-after l rs (omega arith))
     settle-right (suc f) rs ss led far from =
@@ -129,22 +131,22 @@ module _ (w : World) (c : ℕ) (k m : Call) (d : Delivery) (l : Local) (within :
   abbrev t : PlainTrader
   t = d.seen.value
 
-  read : IsRead m.query
+  read : HasReadPolicies m.query
   read = asks-read t m.query (seeks t m.query) l (way_of t m.query) refl local
 
   answered_by : (y : Way) (s : Bool) → IsLocal y s t m.query l → (z : Call) → z.query ≡ m.query → (a : SubAnswer)
-      → Asked calls within c (EndedAs calls) ws z a l → Answered calls within c (EndedAs calls) ws z t a y s
+      → AsksEach calls within c (EndedAs calls) ws z a l → GivesAnswer calls within c (EndedAs calls) ws z t a y s
   answered_by Nowhere s here z q a x = elim here [ ]
   answered_by (Along link) s here z q a x =
-      subst (λ j. Asked calls within c (EndedAs calls) ws z a j) (here ∙ ap (path_at t link) (sym q)) x
+      subst (λ j. AsksEach calls within c (EndedAs calls) ws z a j) (here ∙ ap (path_at t link) (sym q)) x
   answered_by Here false here z q a x = absurd (let y = here.0 in cc)
   answered_by Here true here z q a x =
-      subst (λ j. Asked calls within c (EndedAs calls) ws z a j) (here.1 ∙ ap (search_at t) (sym q)) x
+      subst (λ j. AsksEach calls within c (EndedAs calls) ws z a j) (here.1 ∙ ap (search_at t) (sym q)) x
 
-  staged : Stage → List Step → ℕ → Call
+  staged : Stage → List QuestionStep → ℕ → Call
   staged s ss drawn = record m { stage = s; steps = ss; drawn = drawn }
 
-  staged-same : (s : Stage) (ss : List Step) (drawn : ℕ)
+  staged-same : (s : Stage) (ss : List QuestionStep) (drawn : ℕ)
       → Same k (record m { stage = s; steps = ss; drawn = drawn })
   staged-same s ss drawn = record {
     target = same.target;
@@ -155,7 +157,7 @@ module _ (w : World) (c : ℕ) (k m : Call) (d : Delivery) (l : Local) (within :
     delivery = λ e y. same.delivery e y;
   }
 
-  staged-right : (list : List Call) (s : Stage) (ss : List Step) (drawn : ℕ) → Right list within c ws k
+  staged-right : (list : List Call) (s : Stage) (ss : List QuestionStep) (drawn : ℕ) → Right list within c ws k
       → StageRight list within c ws (record m { stage = s; steps = ss; drawn = drawn }) s
       → Right list within c ws (record m { stage = s; steps = ss; drawn = drawn })
   staged-right list s ss drawn r right = record {
@@ -165,7 +167,7 @@ module _ (w : World) (c : ℕ) (k m : Call) (d : Delivery) (l : Local) (within :
       is = rw same.root r.root.is;
       asked = r.root.asked;
       identifier = λ read id e. ap stated_identifier same.query
-          ∙ r.root.identifier (subst IsRead same.query read) id e;
+          ∙ r.root.identifier (subst HasReadPolicies same.query read) id e;
     };
     caller =
         subst (λ z. CallerRight list c (record m { stage = s; steps = ss; drawn = drawn }) z) (sym same.caller)
@@ -184,7 +186,7 @@ module _ (w : World) (c : ℕ) (k m : Call) (d : Delivery) (l : Local) (within :
         delivery = x.delivery;
         delivered = x.delivered;
         read = x.read;
-        states = λ read. ap stated_identifier same.query ∙ x.states (subst IsRead same.query read);
+        states = λ read. ap stated_identifier same.query ∙ x.states (subst HasReadPolicies same.query read);
       }
 
   stands : (list : List Call) (z : Call) (rs : List StepAnswer) → z.query ≡ m.query → z.delivery ≡ m.delivery
@@ -204,14 +206,14 @@ module _ (w : World) (c : ℕ) (k m : Call) (d : Delivery) (l : Local) (within :
 
   module _ (least : ℕ) (first : (1 ≤ least) ⊎ NoKids w.calls c) where
     -- it ends
-    ends-so : (rs : List StepAnswer) (ss : List Step) → Led calls within c l rs ss → next_of l rs ≡ Done
+    ends-so : (rs : List StepAnswer) (ss : List QuestionStep) → Led calls within c l rs ss → next_of l rs ≡ Done
         → (v u : World)
         → Becomes v (placed_by w c m l rs ss pending.Nothing) u → Went within w u
     ends-so rs ss led none v u b =
-        let z : Call = ending m ss w.drawn (answered l b.0) in
-        let asked : Asked calls within c (EndedAs calls) ws z b.0 l =
-        record { answers = rs; told = led; none_left = none; is_answer = b.1 } in
-        let over : Over calls within c ws z (answered l b.0) = record {
+        let z : Call = ended_call m ss w.drawn (visit_answer l b.0) in
+        let asked : AsksEach calls within c (EndedAs calls) ws z b.0 l =
+        record { answers = rs; content = led; none_left = none; is_answer = b.1 } in
+        let over : Over calls within c ws z (visit_answer l b.0) = record {
           delivery = d;
           delivered = delivered;
           is = answered_by (way_of t m.query) (seeks t m.query) local z refl b.0 asked;
@@ -221,20 +223,20 @@ module _ (w : World) (c : ℕ) (k m : Call) (d : Delivery) (l : Local) (within :
           home = refl;
           words = refl;
           rights =
-              rights-set calls within c ws k z rights is (staged-same (Ended (answered l b.0)) ss w.drawn)
-              (staged-right calls (Ended (answered l b.0)) ss w.drawn (rights c k is) over);
+              rights-set calls within c ws k z rights is (staged-same (Ended (visit_answer l b.0)) ss w.drawn)
+              (staged-right calls (Ended (visit_answer l b.0)) ss w.drawn (rights c k is) over);
           waits = waits-set calls c k z waits is nobody same.caller (λ e. sym handed ∙ e);
           kids = kids-set calls c k z kids is same.caller same.query before;
-          goes = later-set calls c k z is (staged-same (Ended (answered l b.0)) ss w.drawn);
+          goes = later-set calls c k z is (staged-same (Ended (visit_answer l b.0)) ss w.drawn);
         }
 
     -- it waits for a value
-    evaluates-so : (rs : List StepAnswer) (ss : List Step) → Led calls within c l rs ss → AsksValue l rs
+    evaluates-so : (rs : List StepAnswer) (ss : List QuestionStep) → Led calls within c l rs ss → AsksValue l rs
         → (v u : World)
         → Becomes v (placed_by w c m l rs ss pending.Value) u → Went within w u
     evaluates-so rs ss led asks v u b =
-        let z : Call = evaluating m l rs ss in
-        let f : Standing = record { local = l; answers = rs } in
+        let z : Call = evaluating_call m l rs ss in
+        let f : FrameState = record { local = l; answers = rs } in
         subst (Went within w) (sym b) record {
           traders = refl;
           home = refl;
@@ -248,12 +250,12 @@ module _ (w : World) (c : ℕ) (k m : Call) (d : Delivery) (l : Local) (within :
         }
 
     -- it opens a call
-    module _ (rs : List StepAnswer) (ss : List Step) (target : Ior) (number : ℕ) (q : Query)
+    module _ (rs : List StepAnswer) (ss : List QuestionStep) (target : Ior) (number : ℕ) (q : Query)
         (led : Led calls within c l rs ss) (asks : next_of l rs ≡ Forward target q)
         (there : within target ≡ Some number)
         (from : least ≤ length rs) where
       abbrev z : Call
-      z = waiting m l rs ss (length calls)
+      z = waiting_call m l rs ss (length calls)
 
       abbrev y : Call
       y = sent number q m.root (Some c)
@@ -282,7 +284,7 @@ module _ (w : World) (c : ℕ) (k m : Call) (d : Delivery) (l : Local) (within :
       y-there : slice_get list (length calls) ≡ Some y
       y-there = subst (λ x. slice_get list x ≡ Some y) long (get-last half y)
 
-      states : IsRead q → stated_identifier q
+      states : HasReadPolicies q → stated_identifier q
           ≡ carried (is_here (way_of t m.query)) (stated_identifier m.query) (identifier_at t m.query)
       states r = hands-on t m.query (seeks t m.query) l (way_of t m.query) refl local rs target q asks r
 
@@ -295,7 +297,7 @@ module _ (w : World) (c : ℕ) (k m : Call) (d : Delivery) (l : Local) (within :
             asked = s.same.caller ∙ rk.asked;
             identifier = λ r id e. states r
                 ∙ identified-so id (ap stated_identifier same.query
-                ∙ rk.identifier (subst IsRead same.query read) id (ap stated_identifier (sym s.same.query) ∙ e))
+                ∙ rk.identifier (subst HasReadPolicies same.query read) id (ap stated_identifier (sym s.same.query) ∙ e))
                 (way_of t m.query);
           }
 
@@ -388,18 +390,18 @@ module _ (w : World) (c : ℕ) (k m : Call) (d : Delivery) (l : Local) (within :
             goes = goes;
           }
 
-    placed-went : (rs : List StepAnswer) (ss : List Step) (p : Pending) → SettledBy calls within c l least rs ss p
+    placed-went : (rs : List StepAnswer) (ss : List QuestionStep) (p : Pending) → SettledBy calls within c l least rs ss p
         → (v u : World) → Becomes v (placed_by w c m l rs ss p) u → Went within w u
     placed-went rs ss pending.Nothing right v u b = ends-so rs ss right.0 right.1 v u b
     placed-went rs ss pending.Value right v u b = evaluates-so rs ss right.0 right.1 v u b
     placed-went rs ss (pending.SubQuery number q) right v u b =
         asks-so rs ss right.1 number q right.0 right.2 right.3 right.4 v u b
 
-  pub goes_on-went : ((x : Ior) → inside w.traders w.home x ≡ within x) → (rs : List StepAnswer) (ss : List Step)
+  pub goes_on-went : ((x : Ior) → inside w.traders w.home x ≡ within x) → (rs : List StepAnswer) (ss : List QuestionStep)
       → Led calls within c l rs ss → (1 ≤ length rs) ⊎ NoKids w.calls c → (v u : World)
       → Becomes v (goes_on w c m l rs ss) u → Went within w u
   goes_on-went same_inside rs ss led first v u b =
-      let s : Settled = settle (turns_of l + 1) (inside w.traders w.home) l rs ss in
+      let s : VisitProgress = settle (turns_of l + 1) (inside w.traders w.home) l rs ss in
       placed-went (length rs) first s.answers s.steps s.pending
       (settle-right calls within c l (length rs) (inside w.traders w.home) same_inside (turns_of l + 1) rs ss led
       (omega arith) (omega arith)) v u b

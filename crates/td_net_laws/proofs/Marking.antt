@@ -3,16 +3,16 @@ use Rattle.std.proofs.Common.{◌≡◌, ℕ, ◌+◌, ◌<◌, ◌≤◌, ◌==
 use Rattle.std.proofs.Common.{None}
 use Rattle.std.proofs.Common.{Bool, true, false, refl, sym, ◌∙◌, ap, subst, arith, ◌⊎◌, inl, inr}
 use Rattle.std.proofs.lemmas.Bool.Decides.{Decides-eqb}
-use Rattle.td_cdr.specs.Marks.{Marks, Holds}
+use Rattle.td_cdr.specs.Marks.{Marks, RemembersAs}
 use Rattle.td_net_laws.proofs.Below.{MarkedOnce}
 use Rattle.td_net_laws.proofs.Places.{get-set_same, get-set_other, get-set, get-more, get-append, set-get}
-use Rattle.td_net_laws.specs.Arrivals.{Arrival, At, Head}
+use Rattle.td_net_laws.specs.Arrivals.{Arrival, ArrivesAt, CallHead}
 
 -- a call with this identifier searched there, before this serial number
-pub record Searched (hs : List Head) (n : ℕ) (id : List ℕ) (serial : ℕ) : Type 0 where
-  pub head : Head
+pub record Searched (hs : List CallHead) (n : ℕ) (id : List ℕ) (serial : ℕ) : Type 0 where
+  pub head : CallHead
   pub arrival : Arrival
-  pub at : At hs head arrival
+  pub at : ArrivesAt hs head arrival
   pub target : head.target ≡ n
   pub identifier : arrival.identifier ≡ id
   pub search : arrival.searches ≡ true
@@ -24,19 +24,19 @@ pub record Known (base : List Marks) (n : ℕ) (id : List ℕ) : Type 0 where
   pub marks : Marks
   pub number : ℕ
   pub is : slice_get base n ≡ Some marks
-  pub holds : Holds marks id number
+  pub holds : RemembersAs marks id number
 
 -- no two calls have one serial number
-abbrev pub Once : List Head → Type 0
+abbrev pub Once : List CallHead → Type 0
 Once hs =
-    (i j : ℕ) (h g : Head) (d e : Arrival) → slice_get hs i ≡ Some h → slice_get hs j ≡ Some g → h.arrival ≡ Some d
+    (i j : ℕ) (h g : CallHead) (d e : Arrival) → slice_get hs i ≡ Some h → slice_get hs j ≡ Some g → h.arrival ≡ Some d
     → g.arrival ≡ Some e → d.serial ≡ e.serial → i ≡ j
 
-once-open : (hs : List Head) (x : Head) → x.arrival ≡ None → Once hs → Once (hs ++ x ∷ [])
+once-open : (hs : List CallHead) (x : CallHead) → x.arrival ≡ None → Once hs → Once (hs ++ x ∷ [])
 once-open hs x none once i j h g d e hi gj hd ge same = go (get-append hs x i h hi) (get-append hs x j g gj)
   where
-    never : (y : Head) (c : Arrival) → x ≡ y → y.arrival ≡ Some c → ⊥
-    never y c is del = let z = ap (λ (a : Head). a.arrival) is in absurd (cc)
+    never : (y : CallHead) (c : Arrival) → x ≡ y → y.arrival ≡ Some c → ⊥
+    never y c is del = let z = ap (λ (a : CallHead). a.arrival) is in absurd (cc)
 
     go : ((i ≡ length hs) × (x ≡ h)) ⊎ (slice_get hs i ≡ Some h)
         → ((j ≡ length hs) × (x ≡ g)) ⊎ (slice_get hs j ≡ Some g) → i ≡ j
@@ -44,13 +44,13 @@ once-open hs x none once i j h g d e hi gj hd ge same = go (get-append hs x i h 
     go (inr a) (inl b) = absurd (never g e b.1 ge)
     go (inr a) (inr b) = once i j h g d e a b hd ge same
 
-once-deliver : (hs : List Head) (c : ℕ) (o x : Head) (f : Arrival) → slice_get hs c ≡ Some o → x.arrival ≡ Some f
-    → ((h : Head) (d : Arrival) → At hs h d → d.serial < f.serial) → Once hs → Once (slice_set hs c x)
+once-deliver : (hs : List CallHead) (c : ℕ) (o x : CallHead) (f : Arrival) → slice_get hs c ≡ Some o → x.arrival ≡ Some f
+    → ((h : CallHead) (d : Arrival) → ArrivesAt hs h d → d.serial < f.serial) → Once hs → Once (slice_set hs c x)
 once-deliver hs c o x f was new serials once i j h g d e hi gj hd ge same =
     go (get-set hs c i o x h was hi) (get-set hs c j o x g was gj)
   where
-    is_new : (y : Head) (b : Arrival) → x ≡ y → y.arrival ≡ Some b → f ≡ b
-    is_new y b is del = let z = ap (λ (a : Head). a.arrival) is in cc
+    is_new : (y : CallHead) (b : Arrival) → x ≡ y → y.arrival ≡ Some b → f ≡ b
+    is_new y b is del = let z = ap (λ (a : CallHead). a.arrival) is in cc
 
     go : ((i ≡ c) × (x ≡ h)) ⊎ ((i ≡ c → ⊥) × (slice_get hs i ≡ Some h))
         → ((j ≡ c) × (x ≡ g)) ⊎ ((j ≡ c → ⊥) × (slice_get hs j ≡ Some g)) → i ≡ j
@@ -64,42 +64,42 @@ once-deliver hs c o x f was new serials once i j h g d e hi gj hd ge same =
     go (inr a) (inr b) = once i j h g d e a.1 b.1 hd ge same
 
 -- base: the marks at the beginning, since when the calls of the Ask r are told of
-pub record Marking (base : List Marks) (r : ℕ) (ms : List Marks) (hs : List Head) (clock : ℕ) : Type 0 where
-  pub stands : (h : Head) (d : Arrival) → At hs h d → (m : Marks) × (slice_get ms h.target ≡ Some m)
+pub record Marking (base : List Marks) (r : ℕ) (ms : List Marks) (hs : List CallHead) (clock : ℕ) : Type 0 where
+  pub stands : (h : CallHead) (d : Arrival) → ArrivesAt hs h d → (m : Marks) × (slice_get ms h.target ≡ Some m)
   pub once : Once hs
-  pub serials : (h : Head) (d : Arrival) → At hs h d → d.serial < clock
+  pub serials : (h : CallHead) (d : Arrival) → ArrivesAt hs h d → d.serial < clock
   -- two searches of one trader under one identifier lie more than a ring apart
-  pub apart : (h g : Head) (d e : Arrival) (m : Marks) → At hs h d → At hs g e → d.searches ≡ true → e.searches ≡ true
+  pub apart : (h g : CallHead) (d e : Arrival) (m : Marks) → ArrivesAt hs h d → ArrivesAt hs g e → d.searches ≡ true → e.searches ≡ true
       → g.target ≡ h.target → e.identifier ≡ d.identifier → d.serial < e.serial → slice_get ms h.target ≡ Some m
       → d.before + 1 + m.ring ≤ e.before
   -- a search's mark stands there until as many others have followed as the ring holds
-  pub kept : (h : Head) (d : Arrival) (m : Marks) → At hs h d → d.searches ≡ true → slice_get ms h.target ≡ Some m
-      → m.count < d.before + 1 + m.ring → Holds m d.identifier (d.before + 1)
+  pub kept : (h : CallHead) (d : Arrival) (m : Marks) → ArrivesAt hs h d → d.searches ≡ true → slice_get ms h.target ≡ Some m
+      → m.count < d.before + 1 + m.ring → RemembersAs m d.identifier (d.before + 1)
   -- a mark stood there at the beginning, or comes from a search
-  pub known : (n : ℕ) (m : Marks) (id : List ℕ) (k : ℕ) → slice_get ms n ≡ Some m → Holds m id k
+  pub known : (n : ℕ) (m : Marks) (id : List ℕ) (k : ℕ) → slice_get ms n ≡ Some m → RemembersAs m id k
       → Known base n id ⊎ Searched hs n id clock
   -- a repeat follows a search
-  pub repeats : (h : Head) (d : Arrival) → At hs h d → h.root ≡ r → d.visits ≡ true → d.searches ≡ false
+  pub repeats : (h : CallHead) (d : Arrival) → ArrivesAt hs h d → h.root ≡ r → d.visits ≡ true → d.searches ≡ false
       → Known base h.target d.identifier ⊎ Searched hs h.target d.identifier d.serial
 
 -- ---- lists of calls that grew
 
-pub at-more : (hs : List Head) (x h : Head) (d : Arrival) → At hs h d → At (hs ++ x ∷ []) h d
+pub at-more : (hs : List CallHead) (x h : CallHead) (d : Arrival) → ArrivesAt hs h d → ArrivesAt (hs ++ x ∷ []) h d
 at-more hs x h d a = record {
   place = a.place;
   is = get-more hs (x ∷ []) a.place h a.is;
   has_arrived = a.has_arrived;
 }
 
-pub at-append : (hs : List Head) (x h : Head) (d : Arrival) → x.arrival ≡ None → At (hs ++ x ∷ []) h d → At hs h d
+pub at-append : (hs : List CallHead) (x h : CallHead) (d : Arrival) → x.arrival ≡ None → ArrivesAt (hs ++ x ∷ []) h d → ArrivesAt hs h d
 at-append hs x h d none a =
-    elim (get-append hs x a.place h a.is) as (λ o. At hs h d) [
+    elim (get-append hs x a.place h a.is) as (λ o. ArrivesAt hs h d) [
       | inl e ↦ absurd (let same = ap (λ z. z.arrival) e.1 in let is = a.has_arrived in cc)
       | inr e ↦ record { place = a.place; is = e; has_arrived = a.has_arrived }
     ]
 
-pub at-set : (hs : List Head) (c : ℕ) (o x h : Head) (d : Arrival) → slice_get hs c ≡ Some o → o.arrival ≡ None
-    → At hs h d → At (slice_set hs c x) h d
+pub at-set : (hs : List CallHead) (c : ℕ) (o x h : CallHead) (d : Arrival) → slice_get hs c ≡ Some o → o.arrival ≡ None
+    → ArrivesAt hs h d → ArrivesAt (slice_set hs c x) h d
 at-set hs c o x h d was none a = record {
   place = a.place;
   is = get-set_other hs c a.place x (λ e. absurd (
@@ -110,20 +110,20 @@ at-set hs c o x h d was none a = record {
   has_arrived = a.has_arrived;
 }
 
-pub at-new : (hs : List Head) (c : ℕ) (o x : Head) (d : Arrival) → slice_get hs c ≡ Some o → x.arrival ≡ Some d
-    → At (slice_set hs c x) x d
+pub at-new : (hs : List CallHead) (c : ℕ) (o x : CallHead) (d : Arrival) → slice_get hs c ≡ Some o → x.arrival ≡ Some d
+    → ArrivesAt (slice_set hs c x) x d
 at-new hs c o x d was is = record { place = c; is = get-set_same hs c o x was; has_arrived = is }
 
-pub at-old : (hs : List Head) (c : ℕ) (o x h : Head) (e d : Arrival) → slice_get hs c ≡ Some o → x.arrival ≡ Some e
-    → At (slice_set hs c x) h d → At hs h d ⊎ ((x ≡ h) × (e ≡ d))
+pub at-old : (hs : List CallHead) (c : ℕ) (o x h : CallHead) (e d : Arrival) → slice_get hs c ≡ Some o → x.arrival ≡ Some e
+    → ArrivesAt (slice_set hs c x) h d → ArrivesAt hs h d ⊎ ((x ≡ h) × (e ≡ d))
 at-old hs c o x h e d was is a =
-    elim (get-set hs c a.place o x h was a.is) as (λ o. At hs h d ⊎ ((x ≡ h) × (e ≡ d))) [
+    elim (get-set hs c a.place o x h was a.is) as (λ o. ArrivesAt hs h d ⊎ ((x ≡ h) × (e ≡ d))) [
       | inl z ↦ inr (z.1, let same = ap (λ y. y.arrival) z.1 in let i = a.has_arrived in cc)
       | inr z ↦ inl record { place = a.place; is = z.1; has_arrived = a.has_arrived }
     ]
 
-searched-map : (hs ks : List Head) (n : ℕ) (id : List ℕ) (s t : ℕ)
-    → ((h : Head) (d : Arrival) → At hs h d → At ks h d) → s ≤ t → Searched hs n id s → Searched ks n id t
+searched-map : (hs ks : List CallHead) (n : ℕ) (id : List ℕ) (s t : ℕ)
+    → ((h : CallHead) (d : Arrival) → ArrivesAt hs h d → ArrivesAt ks h d) → s ≤ t → Searched hs n id s → Searched ks n id t
 searched-map hs ks n id s t goes le x = record {
   head = x.head;
   arrival = x.arrival;
@@ -135,8 +135,8 @@ searched-map hs ks n id s t goes le x = record {
   before = let b = x.before in omega arith;
 }
 
-either-map : (base : List Marks) (hs ks : List Head) (n : ℕ) (id : List ℕ) (s t : ℕ)
-    → ((h : Head) (d : Arrival) → At hs h d → At ks h d) → s ≤ t → Known base n id ⊎ Searched hs n id s
+either-map : (base : List Marks) (hs ks : List CallHead) (n : ℕ) (id : List ℕ) (s t : ℕ)
+    → ((h : CallHead) (d : Arrival) → ArrivesAt hs h d → ArrivesAt ks h d) → s ≤ t → Known base n id ⊎ Searched hs n id s
     → Known base n id ⊎ Searched ks n id t
 either-map base hs ks n id s t goes le (inl x) = inl x
 either-map base hs ks n id s t goes le (inr x) = inr (searched-map hs ks n id s t goes le x)
@@ -150,10 +150,10 @@ same_or_not a b = go (a == b) refl
 
 -- ---- the moves
 
-module _ (base : List Marks) (r : ℕ) (ms : List Marks) (hs : List Head) (clock : ℕ)
+module _ (base : List Marks) (r : ℕ) (ms : List Marks) (hs : List CallHead) (clock : ℕ)
     (w : Marking base r ms hs clock) where
   -- a call is opened
-  pub marking-open : (x : Head) → x.arrival ≡ None → Marking base r ms (hs ++ x ∷ []) clock
+  pub marking-open : (x : CallHead) → x.arrival ≡ None → Marking base r ms (hs ++ x ∷ []) clock
   marking-open x none = record {
     stands = λ h d a. w.stands h d (at-append hs x h d none a);
     once = once-open hs x none w.once;
@@ -167,27 +167,27 @@ module _ (base : List Marks) (r : ℕ) (ms : List Marks) (hs : List Head) (clock
   }
 
   -- the call c of the head o, which hadn't come to its trader, comes there: its head is then x
-  module _ (c : ℕ) (o x : Head) (f : Arrival) (m : Marks) (was : slice_get hs c ≡ Some o) (none : o.arrival ≡ None)
+  module _ (c : ℕ) (o x : CallHead) (f : Arrival) (m : Marks) (was : slice_get hs c ≡ Some o) (none : o.arrival ≡ None)
       (there : slice_get ms o.target ≡ Some m) (target : x.target ≡ o.target) (new : x.arrival ≡ Some f)
       (serial : f.serial ≡ clock) (before : f.before ≡ m.count) where
-    goes : (h : Head) (d : Arrival) → At hs h d → At (slice_set hs c x) h d
+    goes : (h : CallHead) (d : Arrival) → ArrivesAt hs h d → ArrivesAt (slice_set hs c x) h d
     goes h d = at-set hs c o x h d was none
 
-    back : (h : Head) (d : Arrival) → At (slice_set hs c x) h d → At hs h d ⊎ ((x ≡ h) × (f ≡ d))
+    back : (h : CallHead) (d : Arrival) → ArrivesAt (slice_set hs c x) h d → ArrivesAt hs h d ⊎ ((x ≡ h) × (f ≡ d))
     back h d = at-old hs c o x h f d was new
 
-    older : (h : Head) (d : Arrival) → At hs h d → d.serial < f.serial
+    older : (h : CallHead) (d : Arrival) → ArrivesAt hs h d → d.serial < f.serial
     older h d a = let s = w.serials h d a in omega arith
 
-    next : (h : Head) (d : Arrival) → At hs h d ⊎ ((x ≡ h) × (f ≡ d)) → d.serial < clock + 1
+    next : (h : CallHead) (d : Arrival) → ArrivesAt hs h d ⊎ ((x ≡ h) × (f ≡ d)) → d.serial < clock + 1
     next h d (inl a) = let s = w.serials h d a in omega arith
     next h d (inr a) = let s = ap (λ (z : Arrival). z.serial) a.1 in omega arith
 
-    at_target : (h : Head) → x ≡ h → h.target ≡ o.target
-    at_target h e = ap (λ (z : Head). z.target) (sym e) ∙ target
+    at_target : (h : CallHead) → x ≡ h → h.target ≡ o.target
+    at_target h e = ap (λ (z : CallHead). z.target) (sym e) ∙ target
 
     -- a delivery that marks nothing: where it visits the trader, its identifier is held
-    pub marking-unmarked : f.searches ≡ false → (f.visits ≡ true → (k : ℕ) × Holds m f.identifier k)
+    pub marking-unmarked : f.searches ≡ false → (f.visits ≡ true → (k : ℕ) × RemembersAs m f.identifier k)
         → Marking base r ms (slice_set hs c x) (clock + 1)
     marking-unmarked other held = record {
       stands = λ h d a. there_still h d (back h d a);
@@ -200,7 +200,7 @@ module _ (base : List Marks) (r : ℕ) (ms : List Marks) (hs : List Head) (clock
       repeats = λ h d a root visits not_search. repeats_still h d (back h d a) root visits not_search;
     }
       where
-        there_still : (h : Head) (d : Arrival) → At hs h d ⊎ ((x ≡ h) × (f ≡ d))
+        there_still : (h : CallHead) (d : Arrival) → ArrivesAt hs h d ⊎ ((x ≡ h) × (f ≡ d))
             → (n : Marks) × (slice_get ms h.target ≡ Some n)
         there_still h d (inl a) = w.stands h d a
         there_still h d (inr a) = (m, subst (λ z. slice_get ms z ≡ Some m) (sym (at_target h a.0)) there)
@@ -208,20 +208,20 @@ module _ (base : List Marks) (r : ℕ) (ms : List Marks) (hs : List Head) (clock
         never : (d : Arrival) → f ≡ d → d.searches ≡ true → ⊥
         never d e s = let y = ap (λ (z : Arrival). z.searches) e in absurd (cc)
 
-        apart_still : (h g : Head) (d e : Arrival) (n : Marks) → At hs h d ⊎ ((x ≡ h) × (f ≡ d))
-            → At hs g e ⊎ ((x ≡ g) × (f ≡ e)) → d.searches ≡ true → e.searches ≡ true → g.target ≡ h.target
+        apart_still : (h g : CallHead) (d e : Arrival) (n : Marks) → ArrivesAt hs h d ⊎ ((x ≡ h) × (f ≡ d))
+            → ArrivesAt hs g e ⊎ ((x ≡ g) × (f ≡ e)) → d.searches ≡ true → e.searches ≡ true → g.target ≡ h.target
             → e.identifier ≡ d.identifier → d.serial < e.serial → slice_get ms h.target ≡ Some n
             → d.before + 1 + n.ring ≤ e.before
         apart_still h g d e n (inl a) (inl b) sd se = w.apart h g d e n a b sd se
         apart_still h g d e n (inl a) (inr b) sd se = absurd (never e b.1 se)
         apart_still h g d e n (inr a) b sd se = absurd (never d a.1 sd)
 
-        kept_still : (h : Head) (d : Arrival) (n : Marks) → At hs h d ⊎ ((x ≡ h) × (f ≡ d)) → d.searches ≡ true
-            → slice_get ms h.target ≡ Some n → n.count < d.before + 1 + n.ring → Holds n d.identifier (d.before + 1)
+        kept_still : (h : CallHead) (d : Arrival) (n : Marks) → ArrivesAt hs h d ⊎ ((x ≡ h) × (f ≡ d)) → d.searches ≡ true
+            → slice_get ms h.target ≡ Some n → n.count < d.before + 1 + n.ring → RemembersAs n d.identifier (d.before + 1)
         kept_still h d n (inl a) sd = w.kept h d n a sd
         kept_still h d n (inr a) sd = absurd (never d a.1 sd)
 
-        repeats_still : (h : Head) (d : Arrival) → At hs h d ⊎ ((x ≡ h) × (f ≡ d)) → h.root ≡ r → d.visits ≡ true
+        repeats_still : (h : CallHead) (d : Arrival) → ArrivesAt hs h d ⊎ ((x ≡ h) × (f ≡ d)) → h.root ≡ r → d.visits ≡ true
             → d.searches ≡ false
             → Known base h.target d.identifier ⊎ Searched (slice_set hs c x) h.target d.identifier d.serial
         repeats_still h d (inl a) root visits not_search =
@@ -262,15 +262,15 @@ module _ (base : List Marks) (r : ℕ) (ms : List Marks) (hs : List Head) (clock
       stands_at k z (inl e) = (n, subst (λ i. slice_get (slice_set ms o.target n) i ≡ Some n) (sym e) n_there)
       stands_at k z (inr e) = (z.0, get-set_other ms o.target k n e ∙ z.1)
 
-      stands_new : (h : Head) (d : Arrival) → At hs h d ⊎ ((x ≡ h) × (f ≡ d))
+      stands_new : (h : CallHead) (d : Arrival) → ArrivesAt hs h d ⊎ ((x ≡ h) × (f ≡ d))
           → (z : Marks) × (slice_get (slice_set ms o.target n) h.target ≡ Some z)
       stands_new h d (inl a) = stands_at h.target (w.stands h d a) (same_or_not h.target o.target)
       stands_new h d (inr a) =
           (n, subst (λ i. slice_get (slice_set ms o.target n) i ≡ Some n) (sym (at_target h a.0)) n_there)
 
-      kept_new : (h : Head) (d : Arrival) (y : Marks) → At hs h d ⊎ ((x ≡ h) × (f ≡ d)) → d.searches ≡ true
+      kept_new : (h : CallHead) (d : Arrival) (y : Marks) → ArrivesAt hs h d ⊎ ((x ≡ h) × (f ≡ d)) → d.searches ≡ true
           → ((h.target ≡ o.target) × (n ≡ y)) ⊎ ((h.target ≡ o.target → ⊥) × (slice_get ms h.target ≡ Some y))
-          → y.count < d.before + 1 + y.ring → Holds y d.identifier (d.before + 1)
+          → y.count < d.before + 1 + y.ring → RemembersAs y d.identifier (d.before + 1)
       kept_new h d y (inl a) sd (inl b) near =
           let there2 : slice_get ms h.target ≡ Some m = subst (λ z. slice_get ms z ≡ Some m) (sym b.0) there in
           let p = one.count in
@@ -278,21 +278,21 @@ module _ (base : List Marks) (r : ℕ) (ms : List Marks) (hs : List Head) (clock
           let u = ap (λ (z : Marks). z.count) b.1 in
           let v = ap (λ (z : Marks). z.ring) b.1 in
           let near2 : m.count + 1 < d.before + 1 + m.ring = omega arith in
-          subst (λ z. Holds z d.identifier (d.before + 1)) b.1
+          subst (λ z. RemembersAs z d.identifier (d.before + 1)) b.1
           (one.kept d.identifier (d.before + 1) near2 (w.kept h d m a sd there2 (omega arith)))
       kept_new h d y (inl a) sd (inr b) near = w.kept h d y a sd b.1 near
       kept_new h d y (inr a) sd (inl b) near =
-          let held : Holds y f.identifier (f.before + 1) =
-          subst (λ z. Holds y f.identifier (z + 1)) (sym before)
-          (subst (λ z. Holds z f.identifier (m.count + 1)) b.1 one.new) in
-          subst (λ (z : Arrival). Holds y z.identifier (z.before + 1)) a.1 held
+          let held : RemembersAs y f.identifier (f.before + 1) =
+          subst (λ z. RemembersAs y f.identifier (z + 1)) (sym before)
+          (subst (λ z. RemembersAs z f.identifier (m.count + 1)) b.1 one.new) in
+          subst (λ (z : Arrival). RemembersAs y z.identifier (z.before + 1)) a.1 held
       kept_new h d y (inr a) sd (inr b) near = absurd (b.0 (at_target h a.0))
 
-      known_new : f.searches ≡ true → f.visits ≡ true → (k : ℕ) (y : Marks) (i : List ℕ) (j : ℕ) → Holds y i j
+      known_new : f.searches ≡ true → f.visits ≡ true → (k : ℕ) (y : Marks) (i : List ℕ) (j : ℕ) → RemembersAs y i j
           → ((k ≡ o.target) × (n ≡ y)) ⊎ ((k ≡ o.target → ⊥) × (slice_get ms k ≡ Some y))
           → Known base k i ⊎ Searched (slice_set hs c x) k i (clock + 1)
       known_new sf vf k y i j h (inl a) =
-          elim (one.old i j (subst (λ z. Holds z i j) (sym a.1) h))
+          elim (one.old i j (subst (λ z. RemembersAs z i j) (sym a.1) h))
           as (λ z. Known base k i ⊎ Searched (slice_set hs c x) k i (clock + 1)) [
             | inl b ↦
                 either-map base hs (slice_set hs c x) k i clock (clock + 1) goes (omega arith)
@@ -312,7 +312,7 @@ module _ (base : List Marks) (r : ℕ) (ms : List Marks) (hs : List Head) (clock
       known_new sf vf k y i j h (inr a) =
           either-map base hs (slice_set hs c x) k i clock (clock + 1) goes (omega arith) (w.known k y i j a.1 h)
 
-      repeats_new : f.searches ≡ true → (h : Head) (d : Arrival) → At hs h d ⊎ ((x ≡ h) × (f ≡ d)) → h.root ≡ r
+      repeats_new : f.searches ≡ true → (h : CallHead) (d : Arrival) → ArrivesAt hs h d ⊎ ((x ≡ h) × (f ≡ d)) → h.root ≡ r
           → d.visits ≡ true → d.searches ≡ false
           → Known base h.target d.identifier ⊎ Searched (slice_set hs c x) h.target d.identifier d.serial
       repeats_new sf h d (inl a) root visits not_search =
@@ -331,8 +331,8 @@ module _ (base : List Marks) (r : ℕ) (ms : List Marks) (hs : List Head) (clock
           go (inl le) near = le
           go (inr lt) near = absurd (near lt)
 
-      apart_new : ((k : ℕ) → Holds m f.identifier k → ⊥) → (h g : Head) (d e : Arrival) (y : Marks)
-          → At hs h d ⊎ ((x ≡ h) × (f ≡ d)) → At hs g e ⊎ ((x ≡ g) × (f ≡ e)) → d.searches ≡ true → e.searches ≡ true
+      apart_new : ((k : ℕ) → RemembersAs m f.identifier k → ⊥) → (h g : CallHead) (d e : Arrival) (y : Marks)
+          → ArrivesAt hs h d ⊎ ((x ≡ h) × (f ≡ d)) → ArrivesAt hs g e ⊎ ((x ≡ g) × (f ≡ e)) → d.searches ≡ true → e.searches ≡ true
           → g.target ≡ h.target → e.identifier ≡ d.identifier → d.serial < e.serial
           → ((z : Marks) × (slice_get ms h.target ≡ Some z) × (z.ring ≡ y.ring)) → d.before + 1 + y.ring ≤ e.before
       apart_new fresh h g d e y (inl a) (inl b) sd se targets ids order same =
@@ -351,13 +351,13 @@ module _ (base : List Marks) (r : ℕ) (ms : List Marks) (hs : List Head) (clock
           let rings : m.ring ≡ y.ring = ap (λ (z : Marks). z.ring) (sym one_m) ∙ same.2 in
           let count : m.count ≡ e.before = sym before ∙ ap (λ (z : Arrival). z.before) b.1 in
           let le = far m.count (d.before + 1 + m.ring) (λ near. fresh (d.before + 1)
-          (subst (λ z. Holds m z (d.before + 1)) id_o (w.kept h d m a sd there2 near))) in
+          (subst (λ z. RemembersAs m z (d.before + 1)) id_o (w.kept h d m a sd there2 near))) in
           omega arith
         where
           some_one : (u v : Marks) → Some u ≡ Some v → u ≡ v
           some_one u v e = cc
 
-      pub marking-search : f.searches ≡ true → f.visits ≡ true → ((k : ℕ) → Holds m f.identifier k → ⊥)
+      pub marking-search : f.searches ≡ true → f.visits ≡ true → ((k : ℕ) → RemembersAs m f.identifier k → ⊥)
           → Marking base r (slice_set ms o.target n) (slice_set hs c x) (clock + 1)
       marking-search sf vf fresh = record {
         stands = λ h d a. stands_new h d (back h d a);

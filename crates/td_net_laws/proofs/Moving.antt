@@ -4,32 +4,34 @@ use Rattle.std.proofs.Common.{option_map, Bool, true, false, refl, sym, ◌∙�
 use Rattle.std.proofs.lemmas.List.{map-append, map-set}
 use Rattle.std.proofs.lemmas.Option.{slice_get-map}
 use Rattle.td_cdr.specs.Marks.{Marks}
-use Rattle.td_codes.specs.declared.code.Any.{Any}
+use Rattle.td_typecode.specs.declared.code.Any.{Any}
 use Rattle.td_net.specs.Schedules.{Run, over, then}
-use Rattle.td_net.specs.Worlds.{World, Settled, Becomes, with_calls, sent, waiting, evaluating, ending, answered}
-use Rattle.td_net.specs.Worlds.{placed, placed_by}
-use Rattle.td_net.specs.Worlds.{goes_on, settle, inside, change_at, delivery_of, delivered, ended_at_once, begun_by}
+use Rattle.td_net.specs.Worlds.{World, VisitProgress, Becomes, with_calls, sent, waiting_call, evaluating_call}
+use Rattle.td_net.specs.Worlds.{ended_call, visit_answer}
+use Rattle.td_net.specs.Worlds.{place_visit, placed_by}
+use Rattle.td_net.specs.Worlds.{goes_on, settle, inside, change_at, delivery_of, deliver_call, ended_at_once, begun_by}
 use Rattle.td_net.specs.Worlds.{with_begun}
-use Rattle.td_net.specs.Worlds.{deliver_to, deliver_in, deliver_at, opened, ask_at, takes, value_step, value_answer}
+use Rattle.td_net.specs.Worlds.{deliver_to, deliver_in, deliver_at, open_call, ask_at, takes, value_step, value_answer}
 use Rattle.td_net.specs.Worlds.{value_in}
-use Rattle.td_net.specs.Worlds.{value_at, resumed_in, resumed, handed, hand_on, answer_in_stage, answer_by, answer_at}
+use Rattle.td_net.specs.Worlds.{value_at, resumed_in, resume_caller, hand_answer, hand_on, answer_in_stage, answer_by}
+use Rattle.td_net.specs.Worlds.{answer_at}
 use Rattle.td_net.specs.Worlds.{lose_by, lose_at, step_of}
 use Rattle.td_net.specs.declared.call.Call.{Call}
 use Rattle.td_net.specs.declared.call.Stage.{Stage}
 use Rattle.td_net.specs.declared.call.Stage.TheVariants.{Sent, Running, Evaluating, Waiting, Ended}
-use Rattle.td_net.specs.declared.call.Step.{Step}
-use Rattle.td_net.specs.declared.call.Step.TheVariants as step
+use Rattle.td_net.specs.declared.call.QuestionStep.{QuestionStep}
+use Rattle.td_net.specs.declared.call.QuestionStep.TheVariants as step
 use Rattle.td_net.specs.declared.event.Event.{Event}
 use Rattle.td_net.specs.declared.event.Event.TheVariants.{Change as Changed, Ask, Deliver, Value, Answer, Lose}
-use Rattle.td_net.specs.declared.settling.Pending.{Pending}
-use Rattle.td_net.specs.declared.settling.Pending.TheVariants as pending
-use Rattle.td_net_laws.proofs.Below.{Begun, begins, begun, marked-once, quiet, searching, unmarked}
+use Rattle.td_net.specs.declared.advancing.Pending.{Pending}
+use Rattle.td_net.specs.declared.advancing.Pending.TheVariants as pending
+use Rattle.td_net_laws.proofs.Below.{IsBegun, begins, begun, marked-once, quiet, searching, unmarked}
 use Rattle.td_net_laws.proofs.Marking.{Marking, at-append, at-old, marking-open, marking-search}
 use Rattle.td_net_laws.proofs.Marking.{marking-unmarked}
 use Rattle.td_net_laws.proofs.Places.{get-set_same, get-set, get-append, get-last, set-get}
 use Rattle.td_net_laws.proofs.Points.{Points, change-marks, past-begin, past-change}
 use Rattle.td_net_laws.proofs.Points.{points-deliver, points-open, points-set, reached-set}
-use Rattle.td_net_laws.specs.Arrivals.{Arrival, At, Head, arrival_at, head_of}
+use Rattle.td_net_laws.specs.Arrivals.{Arrival, ArrivesAt, CallHead, arrival_at, head_of}
 use Rattle.td_ops.specs.declared.call.Change.{Change}
 use Rattle.td_ops.specs.declared.call.Query.{Query}
 use Rattle.td_store.specs.declared.local.Local.{Local}
@@ -37,13 +39,13 @@ use Rattle.td_trader.specs.PlainTraders.{PlainTrader, after_begin, after_change,
 use Rattle.td_trader.specs.declared.begin.Begin.{Begin}
 use Rattle.td_trader.specs.declared.begin.Begin.TheVariants as begin
 use Rattle.td_trader_laws.specs.Reaching.{AreReached, IsReached, by_change, by_query}
-use Rattle.td_visit.specs.Standing.{Standing}
+use Rattle.td_visit.specs.Standing.{FrameState}
 use Rattle.td_walk.specs.declared.answer.StepAnswer.{StepAnswer}
 use Rattle.td_walk.specs.declared.answer.StepAnswer.TheVariants as given
 use Rattle.td_walk.specs.declared.trace.Visit.{Visit}
 use Rattle.td_walk.specs.declared.trace.Visit.TheVariants as visit
-use Rattle.td_walk_laws.specs.Reach.{turns_of}
-use Rattle.td_walk_laws.specs.Walks.{answer_in, nothing}
+use Rattle.td_query_walk.specs.Reach.{turns_of}
+use Rattle.td_query_walk.specs.Walks.{answer_in, no_offers}
 
 abbrev pub marks_of : PlainTrader → Marks
 marks_of t = t.marks
@@ -67,13 +69,13 @@ unsent-open calls m all none d x here staged =
       | inr e ↦ all d x e staged
     ]
 
-abbrev pub AllSeen : List Head → Type 0
-AllSeen hs = (h : Head) (d : Arrival) → At hs h d → IsReached d.seen
+abbrev pub AllSeen : List CallHead → Type 0
+AllSeen hs = (h : CallHead) (d : Arrival) → ArrivesAt hs h d → IsReached d.seen
 
-seen-open : (hs : List Head) (x : Head) → x.arrival ≡ None → AllSeen hs → AllSeen (hs ++ x ∷ [])
+seen-open : (hs : List CallHead) (x : CallHead) → x.arrival ≡ None → AllSeen hs → AllSeen (hs ++ x ∷ [])
 seen-open hs x none all h d a = all h d (at-append hs x h d none a)
 
-seen-deliver : (hs : List Head) (c : ℕ) (o x : Head) (e : Arrival) → slice_get hs c ≡ Some o → x.arrival ≡ Some e
+seen-deliver : (hs : List CallHead) (c : ℕ) (o x : CallHead) (e : Arrival) → slice_get hs c ≡ Some o → x.arrival ≡ Some e
     → IsReached e.seen → AllSeen hs → AllSeen (slice_set hs c x)
 seen-deliver hs c o x e was is reached all h d a =
     elim (at-old hs c o x h e d was is a) as (λ z. IsReached d.seen) [
@@ -140,21 +142,21 @@ module _ (base : List Marks) (r : ℕ) where
             none_of : (y : Call) → y.delivery ≡ None → (head_of y).arrival ≡ None
             none_of y none = rw none refl
 
-    placed-kept : (l : Local) (rs : List StepAnswer) (ss : List Step) (p : Pending) (v u : World)
+    placed-kept : (l : Local) (rs : List StepAnswer) (ss : List QuestionStep) (p : Pending) (v u : World)
         → Becomes v (placed_by w c m l rs ss p) u → Marked base r u
     placed-kept l rs ss pending.Nothing v u b =
         subst (Marked base r) (sym b.2)
-        (written (ending m ss w.drawn (answered l b.0)) _ refl (λ e. absurd (cc)))
+        (written (ended_call m ss w.drawn (visit_answer l b.0)) _ refl (λ e. absurd (cc)))
     placed-kept l rs ss pending.Value v u b =
-        subst (Marked base r) (sym b) (written (evaluating m l rs ss) w.drawn refl (λ e. absurd (cc)))
+        subst (Marked base r) (sym b) (written (evaluating_call m l rs ss) w.drawn refl (λ e. absurd (cc)))
     placed-kept l rs ss (pending.SubQuery target q) v u b =
         subst (Marked base r) (sym b)
-        (and_opened (waiting m l rs ss (length w.calls)) (sent target q m.root (Some c)) refl (λ e. absurd (cc)) refl)
+        (and_opened (waiting_call m l rs ss (length w.calls)) (sent target q m.root (Some c)) refl (λ e. absurd (cc)) refl)
 
-    pub goes_on-kept : (l : Local) (rs : List StepAnswer) (ss : List Step) (v u : World)
+    pub goes_on-kept : (l : Local) (rs : List StepAnswer) (ss : List QuestionStep) (v u : World)
         → Becomes v (goes_on w c m l rs ss) u → Marked base r u
     goes_on-kept l rs ss v u b =
-        let s : Settled = settle (turns_of l + 1) (inside w.traders w.home) l rs ss in
+        let s : VisitProgress = settle (turns_of l + 1) (inside w.traders w.home) l rs ss in
         placed-kept l s.answers s.steps s.pending v u b
 
     begun-kept : (q : Begin) (v u : World) → Becomes v (begun_by w c m q) u → Marked base r u
@@ -163,14 +165,14 @@ module _ (base : List Marks) (r : ℕ) where
         (written (record m { stage = Ended (visit.Refused o); drawn = w.drawn }) w.drawn refl (λ e. absurd (cc)))
     begun-kept (begin.Repeat number) v u b =
         subst (Marked base r) (sym b)
-        (written (record m { stage = Ended (visit.Answered nothing 0); drawn = w.drawn }) w.drawn refl
+        (written (record m { stage = Ended (visit.Answered no_offers 0); drawn = w.drawn }) w.drawn refl
         (λ e. absurd (cc)))
     begun-kept (begin.Search l) v u b = goes_on-kept l [] [] v u b
     begun-kept (begin.Path l) v u b = goes_on-kept l [] [] v u b
 
   -- a call goes on from where it stood
   stood-kept : (w : World) (c : ℕ) (k : Call) → Marked base r w → slice_get w.calls c ≡ Some k → (l : Local)
-      (rs : List StepAnswer) (ss : List Step) (v u : World) → Becomes v (goes_on w c k l rs ss) u → Marked base r u
+      (rs : List StepAnswer) (ss : List QuestionStep) (v u : World) → Becomes v (goes_on w c k l rs ss) u → Marked base r u
   stood-kept w c k s is l rs ss v u b =
       let heads = set-get (map head_of w.calls) c (head_of k) (head-get w.calls c k is) in
       goes_on-kept w c k k is (subst (λ z. Marking base r (map marks_of w.traders) z w.clock) (sym heads) s.marking)
@@ -188,9 +190,9 @@ module _ (base : List Marks) (r : ℕ) where
     t1 = after_begin t q (begin_at t q)
 
     abbrev m : Call
-    m = delivered k (delivery_of w.clock t)
+    m = deliver_call k (delivery_of w.clock t)
 
-    abbrev hs : List Head
+    abbrev hs : List CallHead
     hs = map head_of w.calls
 
     reached_t : IsReached t
@@ -209,7 +211,7 @@ module _ (base : List Marks) (r : ℕ) where
     marks_are : map marks_of (slice_set w.traders k.target t1) ≡ marks_then
     marks_are = map-set marks_of w.traders k.target t1
 
-    marking-then : Begun t q (begin_at t q) → Marking base r marks_then (slice_set hs c (head_of m)) (w.clock + 1)
+    marking-then : IsBegun t q (begin_at t q) → Marking base r marks_then (slice_set hs c (head_of m)) (w.clock + 1)
     marking-then (quiet other held) =
         subst (λ z. Marking base r z (slice_set hs c (head_of m)) (w.clock + 1))
         (sym (ap (slice_set (map marks_of w.traders) k.target) (unmarked t q (begin_at t q) other)
@@ -240,7 +242,7 @@ module _ (base : List Marks) (r : ℕ) where
   -- ---- an answer, or a loss
 
   handed-kept : (w : World) (d : ℕ) (k : Call) → Marked base r w → slice_get w.calls d ≡ Some k
-      → Marked base r (handed w d k)
+      → Marked base r (hand_answer w d k)
   handed-kept w d k s is =
       let heads : map head_of (slice_set w.calls d (record k { handed = true })) ≡ map head_of w.calls =
       map-set head_of w.calls d (record k { handed = true })
@@ -255,7 +257,7 @@ module _ (base : List Marks) (r : ℕ) where
   moved : (w u : World) → Marked base r w → u ≡ w → Marked base r u
   moved w u s e = subst (Marked base r) (sym e) s
 
-  resumed_in-kept : (w : World) (p : ℕ) (k : Call) (s : Step) (a : StepAnswer) (x : Stage) → Marked base r w
+  resumed_in-kept : (w : World) (p : ℕ) (k : Call) (s : QuestionStep) (a : StepAnswer) (x : Stage) → Marked base r w
       → slice_get w.calls p ≡ Some k → (v u : World) → Becomes v (resumed_in w p k s a x) u → Marked base r u
   resumed_in-kept w p k s a Sent kept is v u b = moved w u kept b
   resumed_in-kept w p k s a Running kept is v u b = moved w u kept b
@@ -264,15 +266,15 @@ module _ (base : List Marks) (r : ℕ) where
   resumed_in-kept w p k s a (Waiting f e) kept is v u b =
       stood-kept w p k kept is f.local (f.answers ++ a ∷ []) (k.steps ++ s ∷ []) v u b
 
-  resumed-kept : (w : World) (p : ℕ) (s : Step) (a : StepAnswer) (o : Option Call) → slice_get w.calls p ≡ o
-      → Marked base r w → (v u : World) → Becomes v (resumed w p s a o) u → Marked base r u
+  resumed-kept : (w : World) (p : ℕ) (s : QuestionStep) (a : StepAnswer) (o : Option Call) → slice_get w.calls p ≡ o
+      → Marked base r w → (v u : World) → Becomes v (resume_caller w p s a o) u → Marked base r u
   resumed-kept w p s a None is kept v u b = moved w u kept b
   resumed-kept w p s a (Some k) is kept v u b = resumed_in-kept w p k s a k.stage kept is v u b
 
-  hand_on-kept : (w : World) (d : ℕ) (k : Call) (p : ℕ) (s : Step) (a : StepAnswer) → Marked base r w
+  hand_on-kept : (w : World) (d : ℕ) (k : Call) (p : ℕ) (s : QuestionStep) (a : StepAnswer) → Marked base r w
       → slice_get w.calls d ≡ Some k → (v u : World) → Becomes v (hand_on w d k p s a) u → Marked base r u
   hand_on-kept w d k p s a kept is v u b =
-      resumed-kept (handed w d k) p s a (slice_get (handed w d k).calls p) refl (handed-kept w d k kept is) v u b
+      resumed-kept (hand_answer w d k) p s a (slice_get (hand_answer w d k).calls p) refl (handed-kept w d k kept is) v u b
 
   -- ---- each event
 
@@ -294,7 +296,7 @@ module _ (base : List Marks) (r : ℕ) where
         seen = s.seen;
       }
 
-  opened-kept : (w : World) (k : Call) → Marked base r w → k.delivery ≡ None → Marked base r (opened w k)
+  opened-kept : (w : World) (k : Call) → Marked base r w → k.delivery ≡ None → Marked base r (open_call w k)
   opened-kept w k s none =
       let heads : map head_of (w.calls ++ k ∷ []) ≡ map head_of w.calls ++ head_of k ∷ [] =
       map-append head_of w.calls (k ∷ []) in
@@ -315,7 +317,7 @@ module _ (base : List Marks) (r : ℕ) where
   ask-kept w n q None is s u b = moved w u s b
   ask-kept w n q (Some t) is s u b =
       let k : Call = sent n q (length w.calls) None in
-      delivered-kept (opened w k) (length w.calls) k t (opened-kept w k s refl) (get-last w.calls k) refl is w u b
+      delivered-kept (open_call w k) (length w.calls) k t (opened-kept w k s refl) (get-last w.calls k) refl is w u b
 
   deliver_to-kept : (w : World) (c : ℕ) (k : Call) (o : Option PlainTrader) → slice_get w.calls c ≡ Some k
       → k.stage ≡ Sent → slice_get w.traders k.target ≡ o → Marked base r w → (u : World)

@@ -6,10 +6,10 @@ use Rattle.std.proofs.lemmas.List.{map-set}
 use Rattle.std.proofs.lemmas.Option.{slice_get-map}
 use Rattle.std.specs.Option.{option_map}
 use Rattle.std.specs.Str.{bytes_eq}
-use Rattle.td_codes.specs.declared.reference.Ior.{Ior}
+use Rattle.td_typecode.specs.declared.reference.Ior.{Ior}
 use Rattle.td_net.specs.Worlds.{inside}
 use Rattle.td_net_laws.proofs.Places.{set-get}
-use Rattle.td_places.specs.Targets.{home_key, keyed_in, lookup_by, place_of}
+use Rattle.td_targets.specs.Targets.{home_key, keyed_in, lookup_by, place_of}
 use Rattle.td_trader.specs.PlainTraders.{PlainTrader}
 use Rattle.td_trader.specs.Solos.{solo_view}
 use Rattle.td_value.specs.declared.key.Kind.{Kind}

@@ -2,13 +2,13 @@
 use Rattle.std.proofs.Common.{◌≡◌, ℕ, zero, suc, ◌<◌, ◌≤◌, List, slice_get, Option, Some, None, Bool, true, false}
 use Rattle.std.proofs.Common.{refl}
 use Rattle.std.proofs.Common.{sym, ◌∙◌, ap, subst, arith, ◌⊎◌, inl, inr}
-use Rattle.td_codes.specs.declared.reference.Ior.{Ior}
+use Rattle.td_typecode.specs.declared.reference.Ior.{Ior}
 use Rattle.td_net.specs.declared.call.Call.{Call}
 use Rattle.td_net.specs.declared.call.Delivery.{Delivery}
 use Rattle.td_net_laws.proofs.Below.{asked-read, carried, identifier-stated}
 use Rattle.td_net_laws.proofs.Rights.{CallerRight, Rights, visits_by}
 use Rattle.td_net_laws.proofs.Waits.{Kids}
-use Rattle.td_net_laws.specs.Arrivals.{IsRead, Nowhere, identifier_at, is_here, stated_identifier, way_of}
+use Rattle.td_net_laws.specs.Arrivals.{HasReadPolicies, Nowhere, identifier_at, is_here, stated_identifier, way_of}
 use Rattle.td_ops.specs.declared.call.Query.{Query}
 
 three : (x y : ℕ) → (x < y) ⊎ ((y < x) ⊎ (x ≡ y))
@@ -19,7 +19,7 @@ abbrev id_of : Call → Delivery → List ℕ
 id_of k d = identifier_at d.seen.value k.query
 
 -- a call that visits its trader can be read
-visit-read : (k : Call) (d : Delivery) → visits_by k d ≡ true → IsRead k.query
+visit-read : (k : Call) (d : Delivery) → visits_by k d ≡ true → HasReadPolicies k.query
 visit-read k d visits =
     asked-read d.seen.value k.query
     (λ e. absurd (let bad : is_here Nowhere ≡ true = ap is_here (sym e) ∙ visits in cc))
@@ -30,7 +30,7 @@ module _ (calls : List Call) (inside : Ior → Option ℕ) (ws : List ℕ) (righ
   pub record Bare (r x : ℕ) (k : Call) : Type 0 where
     pub is : slice_get calls x ≡ Some k
     pub root : k.root ≡ r
-    pub read : IsRead k.query
+    pub read : HasReadPolicies k.query
     pub none : stated_identifier k.query ≡ None
 
   -- who called it states none, and goes along a path
@@ -157,7 +157,7 @@ module _ (calls : List Call) (inside : Ior → Option ℕ) (ws : List ℕ) (righ
           ∙ (sees a.call b.call a.delivery b.delivery same (some_one a.delivery b.delivery e) ∙ sym b.identifier)
 
   -- a call below states what that visit made
-  source : (f r y : ℕ) (id : List ℕ) (k : Call) → slice_get calls y ≡ Some k → k.root ≡ r → IsRead k.query
+  source : (f r y : ℕ) (id : List ℕ) (k : Call) → slice_get calls y ≡ Some k → k.root ≡ r → HasReadPolicies k.query
       → stated_identifier k.query ≡ Some id
       → ((a : Call) → slice_get calls r ≡ Some a → stated_identifier a.query ≡ None) → y < f → Source r id
   source zero r y id k is root read stated bare far = absurd (omega arith)
@@ -166,7 +166,7 @@ module _ (calls : List Call) (inside : Ior → Option ℕ) (ws : List ℕ) (righ
       (λ p i kp isp rootp readp statedp lt. source f r p i kp isp rootp readp statedp bare lt)
     where
       go : (o : Option ℕ) → k.caller ≡ o → CallerRight calls y k o
-          → ((p : ℕ) (i : List ℕ) (kp : Call) → slice_get calls p ≡ Some kp → kp.root ≡ r → IsRead kp.query
+          → ((p : ℕ) (i : List ℕ) (kp : Call) → slice_get calls p ≡ Some kp → kp.root ≡ r → HasReadPolicies kp.query
           → stated_identifier kp.query ≡ Some i → p < f → Source r i) → Source r id
       go None e c up =
           absurd (let here : slice_get calls r ≡ Some k =
@@ -215,7 +215,7 @@ module _ (calls : List Call) (inside : Ior → Option ℕ) (ws : List ℕ) (righ
       → Source r (id_of k d)
   source-of r x k d is root del visits bare = go (stated_identifier k.query) refl
     where
-      read : IsRead k.query
+      read : HasReadPolicies k.query
       read = visit-read k d visits
 
       go : (o : Option (List ℕ)) → stated_identifier k.query ≡ o → Source r (id_of k d)

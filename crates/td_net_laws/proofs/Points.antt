@@ -6,7 +6,7 @@ use Rattle.td_changes.specs.Histories.{after_all, at}
 use Rattle.td_net_laws.proofs.Marking.{at-append, at-old}
 use Rattle.td_net_laws.proofs.Places.{get-set}
 use Rattle.td_net_laws.specs.Always.{IsPast}
-use Rattle.td_net_laws.specs.Arrivals.{Arrival, At, Head}
+use Rattle.td_net_laws.specs.Arrivals.{Arrival, ArrivesAt, CallHead}
 use Rattle.td_ops.specs.declared.call.Change.{Change}
 use Rattle.td_ops.specs.declared.call.Query.{Query}
 use Rattle.td_ops.specs.declared.outcome.Outcome.{Outcome}
@@ -39,11 +39,11 @@ past-on s t u a b = record {
 }
 
 past-outcome : (t : PlainTrader) (c : Change) (o : Outcome) → Past t (after_outcome t c o)
-past-outcome t c (Done told) = record {
+past-outcome t c (Done content) = record {
   name = refl;
   opening = refl;
   bounds = refl;
-  more = entry c told ∷ [];
+  more = entry c content ∷ [];
   history = refl;
 }
 past-outcome t c (User e) = past-itself t
@@ -81,15 +81,15 @@ past-is s t p = record {
 
 -- ---- of all calls
 
-abbrev pub Points : List PlainTrader → List Head → Type 0
+abbrev pub Points : List PlainTrader → List CallHead → Type 0
 Points ts hs =
-    (h : Head) (d : Arrival) (t : PlainTrader) → At hs h d → slice_get ts h.target ≡ Some t → Past d.seen t
+    (h : CallHead) (d : Arrival) (t : PlainTrader) → ArrivesAt hs h d → slice_get ts h.target ≡ Some t → Past d.seen t
 
-pub points-open : (ts : List PlainTrader) (hs : List Head) (x : Head) → x.arrival ≡ None → Points ts hs
+pub points-open : (ts : List PlainTrader) (hs : List CallHead) (x : CallHead) → x.arrival ≡ None → Points ts hs
     → Points ts (hs ++ x ∷ [])
 points-open ts hs x none p h d t a is = p h d t (at-append hs x h d none a) is
 
-pub points-set : (ts : List PlainTrader) (hs : List Head) (n : ℕ) (t u : PlainTrader) → slice_get ts n ≡ Some t
+pub points-set : (ts : List PlainTrader) (hs : List CallHead) (n : ℕ) (t u : PlainTrader) → slice_get ts n ≡ Some t
     → Past t u → Points ts hs → Points (slice_set ts n u) hs
 points-set ts hs n t u is past p h d v a here =
     elim (get-set ts n h.target t u v is here) as (λ z. Past d.seen v) [
@@ -99,14 +99,14 @@ points-set ts hs n t u is past p h d v a here =
       | inr y ↦ p h d v a y.1
     ]
 
-pub points-deliver : (ts : List PlainTrader) (hs : List Head) (c : ℕ) (o x : Head) (e : Arrival) (t : PlainTrader)
+pub points-deliver : (ts : List PlainTrader) (hs : List CallHead) (c : ℕ) (o x : CallHead) (e : Arrival) (t : PlainTrader)
     → slice_get hs c ≡ Some o → x.arrival ≡ Some e → slice_get ts x.target ≡ Some t → Past e.seen t → Points ts hs
     → Points ts (slice_set hs c x)
 points-deliver ts hs c o x e t was is there past p h d u a here =
     elim (at-old hs c o x h e d was is a) as (λ z. Past d.seen u) [
       | inl y ↦ p h d u y here
       | inr y ↦
-          (let at : slice_get ts h.target ≡ Some t = subst (λ (z : Head). slice_get ts z.target ≡ Some t) y.0 there in
+          (let at : slice_get ts h.target ≡ Some t = subst (λ (z : CallHead). slice_get ts z.target ≡ Some t) y.0 there in
           let same : t ≡ u = cc in
           subst (Past d.seen) same (subst (λ (z : Arrival). Past z.seen t) y.1 past))
     ]
@@ -122,7 +122,7 @@ reached-set ts n t u is reached all k v here =
 -- ---- a change makes no mark
 
 outcome-marks : (t : PlainTrader) (c : Change) (o : Outcome) → (after_outcome t c o).marks ≡ t.marks
-outcome-marks t c (Done told) = refl
+outcome-marks t c (Done content) = refl
 outcome-marks t c (User e) = refl
 outcome-marks t c (System kind minor completion) = refl
 

@@ -2,33 +2,34 @@
 use Rattle.std.proofs.Common.{◌≡◌, ℕ, zero, suc, ◌+◌, ◌<◌, ◌≤◌, List, [], ◌∷◌, ◌++◌, length, slice_get, slice_set}
 use Rattle.std.proofs.Common.{Option}
 use Rattle.std.proofs.Common.{Some, None, is_some, Bool, true, false, refl, sym, ◌∙◌, ap, subst, arith, ◌⊎◌, inl, inr}
-use Rattle.td_codes.specs.declared.code.Any.{Any}
-use Rattle.td_codes.specs.declared.code.TypeCode.{TypeCode}
-use Rattle.td_codes.specs.declared.reference.Ior.{Ior}
+use Rattle.td_typecode.specs.declared.code.Any.{Any}
+use Rattle.td_typecode.specs.declared.code.TypeCode.{TypeCode}
+use Rattle.td_typecode.specs.declared.reference.Ior.{Ior}
 use Rattle.td_ior.specs.Profiles.{iiop_of}
 use Rattle.td_net.specs.declared.call.Call.{Call}
 use Rattle.td_net.specs.declared.call.Delivery.{Delivery}
 use Rattle.td_net.specs.declared.call.Stage.{Stage}
 use Rattle.td_net.specs.declared.call.Stage.TheVariants.{Sent, Running, Evaluating, Waiting, Ended}
-use Rattle.td_net.specs.declared.call.Step.{Step}
+use Rattle.td_net.specs.declared.call.QuestionStep.{QuestionStep}
 use Rattle.td_net_laws.proofs.Below.{IsLocal, carried}
 use Rattle.td_net_laws.proofs.Marking.{same_or_not}
 use Rattle.td_net_laws.proofs.Places.{get-set_same, get-set_other, get-set, get-more, get-append}
-use Rattle.td_net_laws.specs.Arrivals.{Way, Nowhere, Along, Here, IsRead, identifier_at, is_here, path_at, search_at}
+use Rattle.td_net_laws.specs.Arrivals.{Way, Nowhere, Along, Here, HasReadPolicies, identifier_at, is_here, path_at}
+use Rattle.td_net_laws.specs.Arrivals.{search_at}
 use Rattle.td_net_laws.specs.Arrivals.{stated_identifier, way_of}
-use Rattle.td_net_laws.specs.Steps.{Answered, Asked, EndedAs, Led, Opened, Told}
+use Rattle.td_net_laws.specs.Steps.{GivesAnswer, AsksEach, EndedAs, Led, IsSubCall, HasSteps}
 use Rattle.td_net_laws.specs.Steps.{given, lost, nothing_yet, outside, unreachable, unvalued, valued}
 use Rattle.td_ops.specs.declared.call.Query.{Query}
 use Rattle.td_store.specs.declared.local.Local.{Local}
 use Rattle.td_trader.specs.Beginning.{is_search}
 use Rattle.td_trader.specs.PlainTraders.{PlainTrader, begin_at}
-use Rattle.td_visit.specs.Standing.{Standing}
+use Rattle.td_visit.specs.Standing.{FrameState}
 use Rattle.td_walk.specs.Visits.{next_of}
 use Rattle.td_walk.specs.declared.answer.Next.TheVariants.{Evaluate, Forward}
 use Rattle.td_walk.specs.declared.answer.StepAnswer.{StepAnswer}
 use Rattle.td_walk.specs.declared.answer.SubAnswer.{SubAnswer}
 use Rattle.td_walk.specs.declared.trace.Visit.{Visit}
-use Rattle.td_walk_laws.specs.Walks.{answer_in}
+use Rattle.td_query_walk.specs.Walks.{answer_in}
 
 -- ---- what holds of a call
 
@@ -37,7 +38,7 @@ abbrev pub seeks : PlainTrader → Query → Bool
 seeks t q = is_search (begin_at t q)
 
 -- its visit stands there, with the answers of its steps
-pub record Stands (calls : List Call) (inside : Ior → Option ℕ) (c : ℕ) (k : Call) (f : Standing) : Type 0 where
+pub record Stands (calls : List Call) (inside : Ior → Option ℕ) (c : ℕ) (k : Call) (f : FrameState) : Type 0 where
   pub delivery : Delivery
   pub delivered : k.delivery ≡ Some delivery
   pub local : IsLocal (way_of delivery.seen.value k.query) (seeks delivery.seen.value k.query)
@@ -62,13 +63,13 @@ pub record AsksCall (calls : List Call) (inside : Ior → Option ℕ) (c : ℕ) 
   pub number : ℕ
   pub asks : next_of l rs ≡ Forward target query
   pub within : inside target ≡ Some number
-  pub opened : Opened calls c number query sub
+  pub opened : IsSubCall calls c number query sub
 
 pub record Over (calls : List Call) (inside : Ior → Option ℕ) (c : ℕ) (ws : List ℕ) (k : Call)
     (v : Visit) : Type 0 where
   pub delivery : Delivery
   pub delivered : k.delivery ≡ Some delivery
-  pub is : Answered calls inside c (EndedAs calls) ws k delivery.seen.value (answer_in v)
+  pub is : GivesAnswer calls inside c (EndedAs calls) ws k delivery.seen.value (answer_in v)
       (way_of delivery.seen.value k.query) (seeks delivery.seen.value k.query)
 
 abbrev pub StageRight : List Call → (Ior → Option ℕ) → ℕ → List ℕ → Call → Stage → Type 0
@@ -90,8 +91,8 @@ pub record HasCaller (calls : List Call) (c : ℕ) (k : Call) (p : ℕ) : Type 0
   pub root : call.root ≡ k.root
   pub delivery : Delivery
   pub delivered : call.delivery ≡ Some delivery
-  pub read : IsRead call.query
-  pub states : IsRead k.query → stated_identifier k.query
+  pub read : HasReadPolicies call.query
+  pub states : HasReadPolicies k.query → stated_identifier k.query
       ≡ carried (visits_by call delivery) (stated_identifier call.query)
       (identifier_at delivery.seen.value call.query)
 
@@ -105,7 +106,7 @@ pub record RootRight (calls : List Call) (k : Call) : Type 0 where
   pub call : Call
   pub is : slice_get calls k.root ≡ Some call
   pub asked : call.caller ≡ None
-  pub identifier : IsRead k.query → (id : List ℕ) → stated_identifier call.query ≡ Some id
+  pub identifier : HasReadPolicies k.query → (id : List ℕ) → stated_identifier call.query ≡ Some id
       → stated_identifier k.query ≡ Some id
 
 pub record Right (calls : List Call) (inside : Ior → Option ℕ) (c : ℕ) (ws : List ℕ) (k : Call) : Type 0 where
@@ -184,7 +185,7 @@ later-on a b c f g i k is =
     }
 
 module _ (calls later : List Call) (inside : Ior → Option ℕ) (ws : List ℕ) (goes : Later calls later) where
-  pub opened-later : (c k : ℕ) (q : Query) (d : ℕ) → Opened calls c k q d → Opened later c k q d
+  pub opened-later : (c k : ℕ) (q : Query) (d : ℕ) → IsSubCall calls c k q d → IsSubCall later c k q d
   opened-later c k q d o =
       let s = goes d o.call o.is in record {
         call = s.call;
@@ -204,7 +205,7 @@ module _ (calls later : List Call) (inside : Ior → Option ℕ) (ws : List ℕ)
         gives = e.gives;
       }
 
-  pub led-later : {c : ℕ} {l : Local} {rs : List StepAnswer} {ss : List Step} → Led calls inside c l rs ss
+  pub led-later : {c : ℕ} {l : Local} {rs : List StepAnswer} {ss : List QuestionStep} → Led calls inside c l rs ss
       → Led later inside c l rs ss
   led-later nothing_yet = nothing_yet
   led-later (outside s is out) = outside (led-later s) is out
@@ -215,23 +216,23 @@ module _ (calls later : List Call) (inside : Ior → Option ℕ) (ws : List ℕ)
   led-later {c = c} (given {k = k} {q = q} {d = d} {a = a} s is at o e) =
       given (led-later s) is at (opened-later c k q d o) (ended-later d a e)
 
-  asked-later : (c : ℕ) (k : Call) (a : SubAnswer) (l : Local) → Asked calls inside c (EndedAs calls) ws k a l
-      → Asked later inside c (EndedAs later) ws k a l
+  asked-later : (c : ℕ) (k : Call) (a : SubAnswer) (l : Local) → AsksEach calls inside c (EndedAs calls) ws k a l
+      → AsksEach later inside c (EndedAs later) ws k a l
   asked-later c k a l x = record {
     answers = x.answers;
-    told = led-later x.told;
+    content = led-later x.content;
     none_left = x.none_left;
     is_answer = x.is_answer;
   }
 
   answered-later : (c : ℕ) (k : Call) (t : PlainTrader) (a : SubAnswer) (w : Way) (s : Bool)
-      → Answered calls inside c (EndedAs calls) ws k t a w s → Answered later inside c (EndedAs later) ws k t a w s
+      → GivesAnswer calls inside c (EndedAs calls) ws k t a w s → GivesAnswer later inside c (EndedAs later) ws k t a w s
   answered-later c k t a Nowhere s x = x
   answered-later c k t a (Along link) s x = asked-later c k a (path_at t link k.query) x
   answered-later c k t a Here false x = x
   answered-later c k t a Here true x = asked-later c k a (search_at t k.query) x
 
-  stands-later : (c : ℕ) (k : Call) (f : Standing) → Stands calls inside c k f → Stands later inside c k f
+  stands-later : (c : ℕ) (k : Call) (f : FrameState) → Stands calls inside c k f → Stands later inside c k f
   stands-later c k f x = record {
     delivery = x.delivery;
     delivered = x.delivered;
@@ -272,7 +273,7 @@ module _ (calls later : List Call) (inside : Ior → Option ℕ) (ws : List ℕ)
         root = s.same.root ∙ x.root;
         delivery = x.delivery;
         delivered = s.same.delivery x.delivery x.delivered;
-        read = subst IsRead (sym s.same.query) x.read;
+        read = subst HasReadPolicies (sym s.same.query) x.read;
         states = λ read. x.states read
             ∙ ap (λ (z : Query). carried (is_here (way_of x.delivery.seen.value z)) (stated_identifier z)
             (identifier_at x.delivery.seen.value z)) (sym s.same.query);

@@ -3,8 +3,8 @@ use Rattle.std.proofs.Common.{◌≡◌, ℕ, zero, suc, ◌+◌, ◌<◌, List,
 use Rattle.std.proofs.Common.{None, Bool}
 use Rattle.std.proofs.Common.{true, false, refl, sym, ◌∙◌, ap, subst, arith, ◌⊎◌, inl, inr}
 use Rattle.std.proofs.lemmas.Option.{slice_get_within}
-use Rattle.td_cdr.specs.Marks.{Marks, Holds}
-use Rattle.td_codes.specs.declared.reference.Ior.{Ior}
+use Rattle.td_cdr.specs.Marks.{Marks, RemembersAs}
+use Rattle.td_typecode.specs.declared.reference.Ior.{Ior}
 use Rattle.td_net.specs.Schedules.{Run, over, then}
 use Rattle.td_net.specs.Worlds.{World, Becomes, inside, start, step_of}
 use Rattle.td_net.specs.declared.call.Call.{Call}
@@ -23,16 +23,18 @@ use Rattle.td_net_laws.proofs.Turns.{Kept, Sound, kept-event}
 use Rattle.td_net_laws.proofs.Unrolling.{unroll}
 use Rattle.td_net_laws.proofs.Visiting.{Given, search-exactly}
 use Rattle.td_net_laws.specs.Always.{Always}
-use Rattle.td_net_laws.specs.Arrivals.{Arrival, At, Head, arrival_of, arrived, head_of, identifier_at}
+use Rattle.td_net_laws.specs.Arrivals.{Arrival, ArrivesAt, CallHead, arrival_of, arrival_at_delivery, head_of}
+use Rattle.td_net_laws.specs.Arrivals.{identifier_at}
 use Rattle.td_net_laws.specs.Arrivals.{stated_identifier}
-use Rattle.td_net_laws.specs.Premises.{AllAnswered, AllTrees, AreNamed, AreUnderOne, OneTree, Premises, Visits}
+use Rattle.td_net_laws.specs.Premises.{AllAnswered, AllTrees, CallsGoByIdentifier, AreUnderOne, OneTree, Premises}
+use Rattle.td_net_laws.specs.Premises.{CallVisits}
 use Rattle.td_net_laws.specs.Trees.{IsTree}
 use Rattle.td_ops.specs.declared.call.Query.{Query}
 use Rattle.td_trader.specs.PlainTraders.{PlainTrader}
 use Rattle.td_trader_laws.specs.Reaching.{AreReached}
 use Rattle.td_walk.specs.declared.trace.Address.{Address}
 use Rattle.td_walk.specs.declared.trace.Visit.{Visit}
-use Rattle.td_walk_laws.specs.Walks.{answer_in}
+use Rattle.td_query_walk.specs.Walks.{answer_in}
 
 -- ---- the invariants together
 
@@ -98,31 +100,31 @@ record Comes (calls : List Call) (r : ℕ) (d : Arrival) : Type 0 where
   arrival : arrival_of call.query delivery ≡ d
   visits : visits_by call delivery ≡ true
 
-comes : (calls : List Call) (r : ℕ) (h : Head) (d : Arrival) → Visits r (map head_of calls) h d → Comes calls r d
+comes : (calls : List Call) (r : ℕ) (h : CallHead) (d : Arrival) → CallVisits r (map head_of calls) h d → Comes calls r d
 comes calls r h d v =
     let f = from_map head_of calls v.at.place h v.at.is in
-    by f.0 f.1 f.2 f.0.delivery refl (ap (λ (z : Head). z.arrival) f.2 ∙ v.at.has_arrived)
+    by f.0 f.1 f.2 f.0.delivery refl (ap (λ (z : CallHead). z.arrival) f.2 ∙ v.at.has_arrived)
   where
     some_one : (a b : Arrival) → Some a ≡ Some b → a ≡ b
     some_one a b e = cc
 
     by : (k : Call) → slice_get calls v.at.place ≡ Some k → head_of k ≡ h → (o : Option Delivery) → k.delivery ≡ o
-        → arrived k.query k.delivery ≡ Some d → Comes calls r d
-    by k is same None none e = absurd (let bad : None ≡ Some d = ap (arrived k.query) (sym none) ∙ e in cc)
+        → arrival_at_delivery k.query k.delivery ≡ Some d → Comes calls r d
+    by k is same None none e = absurd (let bad : None ≡ Some d = ap (arrival_at_delivery k.query) (sym none) ∙ e in cc)
     by k is same (Some x) del e =
         let one : arrival_of k.query x ≡ d =
-        some_one (arrival_of k.query x) d (ap (arrived k.query) (sym del) ∙ e) in record {
+        some_one (arrival_of k.query x) d (ap (arrival_at_delivery k.query) (sym del) ∙ e) in record {
           place = v.at.place;
           call = k;
           is = is;
-          root = ap (λ (z : Head). z.root) same ∙ v.root;
+          root = ap (λ (z : CallHead). z.root) same ∙ v.root;
           delivery = x;
           delivered = del;
           arrival = one;
           visits = ap (λ (z : Arrival). z.visits) one ∙ v.visits;
         }
 
-pub all-named : Always AreNamed
+pub all-named : Always CallsGoByIdentifier
 all-named ts home words es w reached run r k id is top stated h d v =
     let s = (whole ts home words es w reached run).sound in
     let x = comes w.calls r h d v in
@@ -181,7 +183,7 @@ rebased within base r w x = record {
           let f = from_map head_of w.calls a.place h a.is in
           let y = (x.sound.rights a.place f.0 f.1).root in
           let below = slice_get_within w.calls f.0.root y.call y.is in
-          let same : f.0.root ≡ h.root = ap (λ (z : Head). z.root) f.2 in
+          let same : f.0.root ≡ h.root = ap (λ (z : CallHead). z.root) f.2 in
           omega arith);
     };
     points = x.marked.points;
@@ -195,23 +197,23 @@ rebased within base r w x = record {
 module _ (before : List PlainTrader) (r : ℕ) (within : Ior → Option ℕ) (v : World)
     (x : Whole within (map marks_of before) r v)
     (p : Premises before r v.calls) where
-  abbrev hs : List Head
+  abbrev hs : List CallHead
   hs = map head_of v.calls
 
   abbrev ms : List Marks
   ms = map marks_of v.traders
 
-  ring-same : (h : Head) (d : Arrival) (m : Marks) → At hs h d → slice_get ms h.target ≡ Some m
+  ring-same : (h : CallHead) (d : Arrival) (m : Marks) → ArrivesAt hs h d → slice_get ms h.target ≡ Some m
       → d.seen.bounds.ring ≡ m.ring
   ring-same h d m a is =
       let t = from_map marks_of v.traders h.target m is in
       ap (λ z. z.ring) (x.marked.points h d t.0 a t.1).bounds
       ∙ (sym (ring-is t.0 (x.marked.reached h.target t.0 t.1)) ∙ ap (λ (z : Marks). z.ring) t.2)
 
-  given-for : (h : Head) (d : Arrival) → Visits r hs h d → Given (map marks_of before) ms r d.identifier hs
+  given-for : (h : CallHead) (d : Arrival) → CallVisits r hs h d → Given (map marks_of before) ms r d.identifier hs
   given-for h d vd = record {
     fresh = λ n m k is held. (let t = from_map marks_of before n m is in
-        p.fresh h d vd n t.0 k t.1 (subst (λ z. Holds z d.identifier k) (sym t.2) held));
+        p.fresh h d vd n t.0 k t.1 (subst (λ z. RemembersAs z d.identifier k) (sym t.2) held));
     remembered = λ g i e f m vg vi same order search is. subst (λ z. f.before < e.before + 1 + z)
         (ring-same g e m vg.at is) (p.remembered g i e f vg vi same order search);
     own = λ g e a visits same. p.alone h g d e vd a visits same;

@@ -2,21 +2,22 @@
 use Rattle.std.proofs.Common.{◌≡◌, ℕ, ◌+◌, List, [], ◌∷◌, ◌++◌, length, slice_get, slice_set, Option, Some, None}
 use Rattle.std.proofs.Common.{Bool}
 use Rattle.std.proofs.Common.{true, false, refl, sym, ◌∙◌, ap, subst, arith, ◌⊎◌, inl, inr, length-append}
-use Rattle.td_codes.specs.declared.code.Any.{Any}
-use Rattle.td_codes.specs.declared.reference.Ior.{Ior}
+use Rattle.td_typecode.specs.declared.code.Any.{Any}
+use Rattle.td_typecode.specs.declared.reference.Ior.{Ior}
 use Rattle.td_net.specs.Schedules.{Run, over, then}
-use Rattle.td_net.specs.Worlds.{World, Becomes, inside, sent, goes_on, change_at, delivery_of, delivered, begun_by}
+use Rattle.td_net.specs.Worlds.{World, Becomes, inside, sent, goes_on, change_at, delivery_of, deliver_call, begun_by}
 use Rattle.td_net.specs.Worlds.{with_begun}
-use Rattle.td_net.specs.Worlds.{deliver_to, deliver_in, deliver_at, opened, ask_at, takes, value_step, value_answer}
+use Rattle.td_net.specs.Worlds.{deliver_to, deliver_in, deliver_at, open_call, ask_at, takes, value_step, value_answer}
 use Rattle.td_net.specs.Worlds.{value_in}
-use Rattle.td_net.specs.Worlds.{value_at, resumed_in, resumed, handed, hand_on, answer_in_stage, answer_by, answer_at}
+use Rattle.td_net.specs.Worlds.{value_at, resumed_in, resume_caller, hand_answer, hand_on, answer_in_stage, answer_by}
+use Rattle.td_net.specs.Worlds.{answer_at}
 use Rattle.td_net.specs.Worlds.{lose_by, lose_at, step_of}
 use Rattle.td_net.specs.declared.call.Call.{Call}
 use Rattle.td_net.specs.declared.call.Delivery.{Delivery}
 use Rattle.td_net.specs.declared.call.Stage.{Stage}
 use Rattle.td_net.specs.declared.call.Stage.TheVariants.{Sent, Running, Evaluating, Waiting, Ended}
-use Rattle.td_net.specs.declared.call.Step.{Step}
-use Rattle.td_net.specs.declared.call.Step.TheVariants as step
+use Rattle.td_net.specs.declared.call.QuestionStep.{QuestionStep}
+use Rattle.td_net.specs.declared.call.QuestionStep.TheVariants as step
 use Rattle.td_net.specs.declared.event.Event.{Event}
 use Rattle.td_net.specs.declared.event.Event.TheVariants.{Change as Changed, Ask, Deliver, Value, Answer, Lose}
 use Rattle.td_net_laws.proofs.Below.{Begins, IsLocal, along, begins, refused, repeats, searches}
@@ -31,9 +32,10 @@ use Rattle.td_net_laws.proofs.Marking.{same_or_not}
 use Rattle.td_net_laws.proofs.Waits.{IsWaiting, Kids, NobodyFor, NoKids, Waits, WaitsAt, kids-open, kids-set}
 use Rattle.td_net_laws.proofs.Waits.{none-yet}
 use Rattle.td_net_laws.proofs.Waits.{waits-open, waits-set}
-use Rattle.td_net_laws.specs.Arrivals.{Way, Nowhere, Along, Here, IsRead, path_at, search_at, stated_identifier}
+use Rattle.td_net_laws.specs.Arrivals.{Way, Nowhere, Along, Here, HasReadPolicies, path_at, search_at}
+use Rattle.td_net_laws.specs.Arrivals.{stated_identifier}
 use Rattle.td_net_laws.specs.Arrivals.{way_of}
-use Rattle.td_net_laws.specs.Steps.{Answered, Asked, EndedAs, Led, Opened, given as gave, lost, nothing_yet}
+use Rattle.td_net_laws.specs.Steps.{GivesAnswer, AsksEach, EndedAs, Led, IsSubCall, given as gave, lost, nothing_yet}
 use Rattle.td_net_laws.specs.Steps.{unvalued, valued}
 use Rattle.td_ops.specs.declared.call.Change.{Change}
 use Rattle.td_ops.specs.declared.call.Query.{Query}
@@ -43,7 +45,7 @@ use Rattle.td_trader.specs.PlainTraders.{PlainTrader, after_begin, after_change,
 use Rattle.td_trader.specs.declared.begin.Begin.{Begin}
 use Rattle.td_trader.specs.declared.begin.Begin.TheVariants as begin
 use Rattle.td_trader_laws.specs.Reaching.{AreReached}
-use Rattle.td_visit.specs.Standing.{Standing}
+use Rattle.td_visit.specs.Standing.{FrameState}
 use Rattle.td_walk.specs.Visits.{next_of}
 use Rattle.td_walk.specs.declared.answer.Next.TheVariants.{Forward}
 use Rattle.td_walk.specs.declared.answer.StepAnswer.{StepAnswer}
@@ -51,7 +53,7 @@ use Rattle.td_walk.specs.declared.answer.StepAnswer.TheVariants as given
 use Rattle.td_walk.specs.declared.answer.SubAnswer.{SubAnswer}
 use Rattle.td_walk.specs.declared.trace.Visit.{Visit}
 use Rattle.td_walk.specs.declared.trace.Visit.TheVariants as visit
-use Rattle.td_walk_laws.specs.Walks.{answer_in, nothing}
+use Rattle.td_query_walk.specs.Walks.{answer_in, no_offers}
 
 pub record Sound (within : Ior → Option ℕ) (w : World) : Type 0 where
   pub inside : (x : Ior) → inside w.traders w.home x ≡ within x
@@ -104,7 +106,7 @@ module _ (within : Ior → Option ℕ) where
     d = delivery_of w.clock t
 
     abbrev m : Call
-    m = delivered k d
+    m = deliver_call k d
 
     abbrev behind : World
     behind = with_begun w k.target t q
@@ -142,8 +144,8 @@ module _ (within : Ior → Option ℕ) where
         inside-set w.traders k.target t (after_begin t q (begin_at t q)) w.home x there refl ∙ s.inside x
 
     -- it ends at once
-    at-once : (v : Visit) → answer_in v ≡ nothing
-        → ((z : Call) → Answered w.calls within c (EndedAs w.calls) w.words z t
+    at-once : (v : Visit) → answer_in v ≡ no_offers
+        → ((z : Call) → GivesAnswer w.calls within c (EndedAs w.calls) w.words z t
         (answer_in v) (way_of t q) (seeks t q))
         → (x u : World) → Becomes x (begun_by behind c m (begin_at t q)) u
         → u ≡ record behind { calls = slice_set w.calls c (record m { stage = Ended v; drawn = w.drawn }) }
@@ -203,13 +205,13 @@ module _ (within : Ior → Option ℕ) where
         → Kept within w u
     by_begin _ (refused o way) e x u become =
         at-once (visit.Refused o) refl
-        (λ z. subst (λ y. Answered w.calls within c (EndedAs w.calls) w.words z t nothing y (seeks t q))
+        (λ z. subst (λ y. GivesAnswer w.calls within c (EndedAs w.calls) w.words z t no_offers y (seeks t q))
         (sym way) refl)
         x u (subst (λ y. Becomes x (begun_by behind c m y) u) (sym e) become) become
     by_begin _ (repeats number way held) e x u become =
-        at-once (visit.Answered nothing 0) refl
-        (λ z. subst (λ y. Answered w.calls within c (EndedAs w.calls) w.words z t nothing y (seeks t q)) (sym way)
-        (subst (λ y. Answered w.calls within c (EndedAs w.calls) w.words z t nothing Here y)
+        at-once (visit.Answered no_offers 0) refl
+        (λ z. subst (λ y. GivesAnswer w.calls within c (EndedAs w.calls) w.words z t no_offers y (seeks t q)) (sym way)
+        (subst (λ y. GivesAnswer w.calls within c (EndedAs w.calls) w.words z t no_offers Here y)
         (sym (ap is_search e)) refl))
         x u (subst (λ y. Becomes x (begun_by behind c m y) u) (sym e) become) become
     by_begin _ (along link way) e x u become =
@@ -225,7 +227,7 @@ module _ (within : Ior → Option ℕ) where
 
   -- ---- a value
 
-  module _ (w : World) (c : ℕ) (k : Call) (f : Standing) (s : Sound within w) (is : slice_get w.calls c ≡ Some k)
+  module _ (w : World) (c : ℕ) (k : Call) (f : FrameState) (s : Sound within w) (is : slice_get w.calls c ≡ Some k)
       (staged : k.stage ≡ Evaluating f) where
     right : StageRight w.calls within c w.words k (Evaluating f)
     right = subst (λ z. StageRight w.calls within c w.words k z) staged (s.rights c k is).stage
@@ -262,14 +264,14 @@ module _ (within : Ior → Option ℕ) where
 
   module _ (w : World) (d : ℕ) (k : Call) (p : ℕ) (s : Sound within w) (is : slice_get w.calls d ≡ Some k)
       (by : k.caller ≡ Some p) (open_yet : k.handed ≡ false) where
-    abbrev told : Call
-    told = record k { handed = true }
+    abbrev content : Call
+    content = record k { handed = true }
 
     abbrev calls1 : List Call
-    calls1 = slice_set w.calls d told
+    calls1 = slice_set w.calls d content
 
-    told-same : Same k told
-    told-same = record {
+    content-same : Same k content
+    content-same = record {
       target = refl;
       query = refl;
       root = refl;
@@ -278,36 +280,36 @@ module _ (within : Ior → Option ℕ) where
       delivery = λ e y. y;
     }
 
-    told-stands : (f : Standing) → Stands w.calls within d k f → Stands w.calls within d told f
-    told-stands f h = record { delivery = h.delivery; delivered = h.delivered; local = h.local; led = h.led }
+    content-stands : (f : FrameState) → Stands w.calls within d k f → Stands w.calls within d content f
+    content-stands f h = record { delivery = h.delivery; delivered = h.delivered; local = h.local; led = h.led }
 
-    told-stage : (x : Stage) → StageRight w.calls within d w.words k x → StageRight w.calls within d w.words told x
-    told-stage Sent h = h
-    told-stage Running h = h
-    told-stage (Evaluating f) h = (told-stands f h.0, h.1)
-    told-stage (Waiting f e) h = (told-stands f h.0, h.1)
-    told-stage (Ended v) h = record {
+    content-stage : (x : Stage) → StageRight w.calls within d w.words k x → StageRight w.calls within d w.words content x
+    content-stage Sent h = h
+    content-stage Running h = h
+    content-stage (Evaluating f) h = (content-stands f h.0, h.1)
+    content-stage (Waiting f e) h = (content-stands f h.0, h.1)
+    content-stage (Ended v) h = record {
       delivery = h.delivery;
       delivered = h.delivered;
       is = ended (way_of h.delivery.seen.value k.query) (seeks h.delivery.seen.value k.query)
           h.delivery.seen.value h.is;
     }
       where
-        asked : (l : Local) → Asked w.calls within d (EndedAs w.calls) w.words k (answer_in v) l
-            → Asked w.calls within d (EndedAs w.calls) w.words told (answer_in v) l
-        asked l x = record { answers = x.answers; told = x.told; none_left = x.none_left; is_answer = x.is_answer }
+        asked : (l : Local) → AsksEach w.calls within d (EndedAs w.calls) w.words k (answer_in v) l
+            → AsksEach w.calls within d (EndedAs w.calls) w.words content (answer_in v) l
+        asked l x = record { answers = x.answers; content = x.content; none_left = x.none_left; is_answer = x.is_answer }
 
         ended : (way : Way) (b : Bool) (t : PlainTrader)
-            → Answered w.calls within d (EndedAs w.calls) w.words k t (answer_in v) way b
-            → Answered w.calls within d (EndedAs w.calls) w.words told t (answer_in v) way b
+            → GivesAnswer w.calls within d (EndedAs w.calls) w.words k t (answer_in v) way b
+            → GivesAnswer w.calls within d (EndedAs w.calls) w.words content t (answer_in v) way b
         ended Nowhere b t x = x
         ended (Along link) b t x = asked (path_at t link k.query) x
         ended Here false t x = x
         ended Here true t x = asked (search_at t k.query) x
 
-    told-caller : (o : Option ℕ) → CallerRight w.calls d k o → CallerRight w.calls d told o
-    told-caller None h = h
-    told-caller (Some q) x = record {
+    content-caller : (o : Option ℕ) → CallerRight w.calls d k o → CallerRight w.calls d content o
+    content-caller None h = h
+    content-caller (Some q) x = record {
       before = x.before;
       call = x.call;
       is = x.is;
@@ -321,11 +323,11 @@ module _ (within : Ior → Option ℕ) where
     rights1 : Rights calls1 within w.words
     rights1 =
         let x = s.rights d k is in
-        rights-set w.calls within d w.words k told s.rights is told-same record {
+        rights-set w.calls within d w.words k content s.rights is content-same record {
           old = x.old;
           root = record { call = x.root.call; is = x.root.is; asked = x.root.asked; identifier = x.root.identifier };
-          caller = told-caller k.caller x.caller;
-          stage = told-stage k.stage x.stage;
+          caller = content-caller k.caller x.caller;
+          stage = content-stage k.stage x.stage;
         }
 
     -- who waited still does
@@ -334,20 +336,20 @@ module _ (within : Ior → Option ℕ) where
       where
         go : (q ≡ d) ⊎ (q ≡ d → ⊥) → WaitsAt calls1 q e
         go (inl x) = record {
-          call = told;
-          is = subst (λ z. slice_get calls1 z ≡ Some told) (sym x) (get-set_same w.calls d k told is);
+          call = content;
+          is = subst (λ z. slice_get calls1 z ≡ Some content) (sym x) (get-set_same w.calls d k content is);
           waits =
               let same : a.call ≡ k =
               (let h : slice_get w.calls d ≡ Some a.call = subst (λ z. slice_get w.calls z ≡ Some a.call) x
               a.is in cc) in
               subst (λ (z : Call). IsWaiting z.stage e) same a.waits;
         }
-        go (inr x) = record { call = a.call; is = get-set_other w.calls d q told x ∙ a.is; waits = a.waits }
+        go (inr x) = record { call = a.call; is = get-set_other w.calls d q content x ∙ a.is; waits = a.waits }
 
     still_open : (e : ℕ) (x : Call) → slice_get calls1 e ≡ Some x → x.handed ≡ false
         → (e ≡ d → ⊥) × (slice_get w.calls e ≡ Some x)
     still_open e x here yet =
-        elim (get-set w.calls d e k told x is here) as (λ z. (e ≡ d → ⊥) × (slice_get w.calls e ≡ Some x)) [
+        elim (get-set w.calls d e k content x is here) as (λ z. (e ≡ d → ⊥) × (slice_get w.calls e ≡ Some x)) [
           | inl h ↦ absurd (let y = ap (λ (z : Call). z.handed) h.1 in cc)
           | inr h ↦ h
         ]
@@ -371,24 +373,24 @@ module _ (within : Ior → Option ℕ) where
         o.0 (waits_one a.call.stage e d a.waits (subst (λ (z : Call). IsWaiting z.stage d) same b.waits))
 
     kids1 : Kids calls1
-    kids1 = kids-set w.calls d k told s.kids is refl refl (inl refl)
+    kids1 = kids-set w.calls d k content s.kids is refl refl (inl refl)
 
-    w1 : Sound within (handed w d k)
+    w1 : Sound within (hand_answer w d k)
     w1 = record { inside = s.inside; rights = rights1; waits = waits1; kids = kids1 }
 
     -- what the answer adds to what the caller's visit was told
-    abbrev Adds : Step → StepAnswer → Type 0
+    abbrev Adds : QuestionStep → StepAnswer → Type 0
     Adds s a =
-        (l : Local) (rs : List StepAnswer) (ss : List Step) (target : Ior) (n : ℕ) (q : Query)
+        (l : Local) (rs : List StepAnswer) (ss : List QuestionStep) (target : Ior) (n : ℕ) (q : Query)
         → Led calls1 within p l rs ss → next_of l rs ≡ Forward target q → within target ≡ Some n
-        → Opened calls1 p n q d → Led calls1 within p l (rs ++ a ∷ []) (ss ++ s ∷ [])
+        → IsSubCall calls1 p n q d → Led calls1 within p l (rs ++ a ∷ []) (ss ++ s ∷ [])
 
-    not_over : (x : Stage) (f : Standing) (e : ℕ) → x ≡ Waiting f e → (v : Visit) → x ≡ Ended v → ⊥
+    not_over : (x : Stage) (f : FrameState) (e : ℕ) → x ≡ Waiting f e → (v : Visit) → x ≡ Ended v → ⊥
     not_over x f e is v o = absurd (let bad = sym is ∙ o in cc)
 
-    resumed-kept : (q : Call) (x : Stage) (s : Step) (a : StepAnswer) → slice_get calls1 p ≡ Some q → q.stage ≡ x
+    resumed-kept : (q : Call) (x : Stage) (s : QuestionStep) (a : StepAnswer) → slice_get calls1 p ≡ Some q → q.stage ≡ x
         → IsWaiting x d → StageRight calls1 within p w.words q x → Adds s a → (v u : World)
-        → Becomes v (resumed_in (handed w d k) p q s a x) u → Kept within (handed w d k) u
+        → Becomes v (resumed_in (hand_answer w d k) p q s a x) u → Kept within (hand_answer w d k) u
     resumed-kept q Sent s a here staged waiting right more v u become = elim waiting [ ]
     resumed-kept q Running s a here staged waiting right more v u become = elim waiting [ ]
     resumed-kept q (Evaluating f) s a here staged waiting right more v u become = elim waiting [ ]
@@ -398,25 +400,25 @@ module _ (within : Ior → Option ℕ) where
         let y = right.1 in
         let led : Led calls1 within p f.local (f.answers ++ a ∷ []) (q.steps ++ s ∷ []) =
         more f.local f.answers q.steps y.target y.number y.query x.led y.asks y.within
-        (subst (λ z. Opened calls1 p y.number y.query z) waiting y.opened) in
-        let went : Went within (handed w d k) u =
-        goes_on-went (handed w d k) p q q x.delivery f.local within rights1 waits1 kids1 here (same-itself q)
+        (subst (λ z. IsSubCall calls1 p y.number y.query z) waiting y.opened) in
+        let went : Went within (hand_answer w d k) u =
+        goes_on-went (hand_answer w d k) p q q x.delivery f.local within rights1 waits1 kids1 here (same-itself q)
         nobody1 refl
         x.delivered x.local (inl refl) (not_over q.stage f e staged) w1.inside (f.answers ++ a ∷ [])
         (q.steps ++ s ∷ []) led
         (inl (rw length-append (omega arith))) v u become in
-        kept-went (handed w d k) (handed w d k) u went w1.inside refl refl
+        kept-went (hand_answer w d k) (hand_answer w d k) u went w1.inside refl refl
 
-    pub kept-hand_on : (s : Step) (a : StepAnswer) → Adds s a → (v u : World) → Becomes v (hand_on w d k p s a) u
+    pub kept-hand_on : (s : QuestionStep) (a : StepAnswer) → Adds s a → (v u : World) → Becomes v (hand_on w d k p s a) u
         → Kept within w u
     kept-hand_on st a more v u become =
         let b = waits-at1 p d (s.waits d p k is by open_yet) in
-        let kept : Kept within (handed w d k) u =
+        let kept : Kept within (hand_answer w d k) u =
         resumed-kept b.call b.call.stage st a b.is refl b.waits (rights1 p b.call b.is).stage more v u
-        (subst (λ z. Becomes v (resumed (handed w d k) p st a z) u) b.is become) in
-        kept-on w (handed w d k) u (record {
+        (subst (λ z. Becomes v (resume_caller (hand_answer w d k) p st a z) u) b.is become) in
+        kept-on w (hand_answer w d k) u (record {
           sound = w1;
-          goes = later-set w.calls d k told is told-same;
+          goes = later-set w.calls d k content is content-same;
           words = refl;
         }) kept
 
@@ -428,9 +430,9 @@ module _ (within : Ior → Option ℕ) where
     kept-given y ended =
         kept-hand_on (step.Given d) (given.Offers (answer_in y)) (λ l rs ss target n q led next there o.
         gave led next there o record {
-          call = told;
+          call = content;
           visit = y;
-          is = get-set_same w.calls d k told is;
+          is = get-set_same w.calls d k content is;
           ended = ended;
           gives = refl;
         })
@@ -454,7 +456,7 @@ module _ (within : Ior → Option ℕ) where
       }
 
   kept-opened : (w : World) (n : ℕ) (q : Query) → Sound within w
-      → Kept within w (opened w (sent n q (length w.calls) None))
+      → Kept within w (open_call w (sent n q (length w.calls) None))
   kept-opened w n q s =
       let k : Call = sent n q (length w.calls) None in record {
         sound = record {
@@ -479,8 +481,8 @@ module _ (within : Ior → Option ℕ) where
   kept-ask w n q (Some t) is reached s u become =
       let k : Call = sent n q (length w.calls) None in
       let a = kept-opened w n q s in
-      kept-on w (opened w k) u a
-      (kept-delivered (opened w k) (length w.calls) k t a.sound (get-last w.calls k) refl is reached w u become)
+      kept-on w (open_call w k) u a
+      (kept-delivered (open_call w k) (length w.calls) k t a.sound (get-last w.calls k) refl is reached w u become)
 
   kept-deliver_to : (w : World) (c : ℕ) (k : Call) (o : Option PlainTrader) → slice_get w.calls c ≡ Some k
       → k.stage ≡ Sent → slice_get w.traders k.target ≡ o → AreReached w.traders → Sound within w → (u : World)

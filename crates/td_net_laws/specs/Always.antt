@@ -24,17 +24,17 @@ abbrev pub AreFar : (most a b : ℕ) → Type 0
 AreFar most a b = (a + most < b) ⊎ (b + most < a)
 
 -- the call of this number was delivered, and its trader was searched for it
-pub record IsSearched (calls : List Call) (c : ℕ) (k : Call) (d : Delivery)
+pub record CallSearched (calls : List Call) (c : ℕ) (k : Call) (d : Delivery)
     (l : Local) : Type 0 where
   pub is : slice_get calls c ≡ Some k
   pub delivered : k.delivery ≡ Some d
   pub begun : begin_at d.seen.value k.query ≡ Search l
 
 -- Two searches of one trader under one identifier have marks whose numbers differ by more than it remembers.
-abbrev pub AreApart : World → Type 0
-AreApart w =
+abbrev pub MarksAreApart : World → Type 0
+MarksAreApart w =
     (i j : ℕ) (h g : Call) (d e : Delivery) (k l : Local) (identifier : List ℕ) → (i ≡ j → ⊥)
-    → IsSearched w.calls i h d k → IsSearched w.calls j g e l → g.target ≡ h.target
+    → CallSearched w.calls i h d k → CallSearched w.calls j g e l → g.target ≡ h.target
     → k.identifier ≡ Some identifier → l.identifier ≡ Some identifier
     → AreFar d.seen.value.bounds.ring k.mark l.mark
 

@@ -42,8 +42,8 @@ unfoldable pub stated_identifier : Query → Option (List ℕ)
 stated_identifier q = (parts_of q).stated.request_id
 
 -- its policies can be read
-unfoldable pub IsRead : Query → Type 0
-IsRead q = stated q.policies ≡ Ok (parts_of q).stated
+unfoldable pub HasReadPolicies : Query → Type 0
+HasReadPolicies q = stated q.policies ≡ Ok (parts_of q).stated
 
 -- the identifier that it is searched under: the stated one, or else the next one that the trader makes
 unfoldable pub identifier_at : PlainTrader → Query → List ℕ
@@ -83,21 +83,26 @@ arrival_at serial t q = record {
 abbrev pub arrival_of : Query → Delivery → Arrival
 arrival_of q d = arrival_at d.serial d.seen.value q
 
-abbrev pub arrived : Query → Option Delivery → Option Arrival
-arrived q None = None
-arrived q (Some d) = Some (arrival_of q d)
+abbrev pub arrival_at_delivery : Query → Option Delivery → Option Arrival
+arrival_at_delivery q None = None
+arrival_at_delivery q (Some d) = Some (arrival_of q d)
 
 -- what marks depend on of a call: its trader, the call of its Ask, and how it came there
-pub record Head : Type 0 where
+pub record CallHead : Type 0 where
   pub target : ℕ
   pub root : ℕ
   pub arrival : Option Arrival
 
-abbrev pub head_of : Call → Head
-head_of k = record { target = k.target; root = k.root; arrival = arrived k.query k.delivery }
+abbrev pub head_of : Call → CallHead
+head_of k = record {
+  target = k.target;
+  root = k.root;
+  arrival = arrival_at_delivery k.query
+      k.delivery;
+}
 
 -- a call of the list that came so to its trader
-pub record At (hs : List Head) (h : Head) (d : Arrival) : Type 0 where
+pub record ArrivesAt (hs : List CallHead) (h : CallHead) (d : Arrival) : Type 0 where
   pub place : ℕ
   pub is : slice_get hs place ≡ Some h
   pub has_arrived : h.arrival ≡ Some d

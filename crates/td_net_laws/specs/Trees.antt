@@ -2,11 +2,11 @@
 use Rattle.std.specs.Prelude.{◌≡◌, ℕ, zero, suc, nat_lt, List, [], ◌∷◌, map, slice_get, Option, Some, None, Bool}
 use Rattle.std.specs.Prelude.{true}
 use Rattle.std.specs.Prelude.{false, ◌==◌, ◌&&◌, ◌||◌, not}
-use Rattle.td_codes.specs.declared.reference.Ior.{Ior}
+use Rattle.td_typecode.specs.declared.reference.Ior.{Ior}
 use Rattle.td_net.specs.declared.call.Call.{Call}
 use Rattle.td_net.specs.declared.call.Delivery.{Delivery}
-use Rattle.td_net_laws.specs.Arrivals.{Arrival, Head, head_of, way_of}
-use Rattle.td_net_laws.specs.Steps.{Answered}
+use Rattle.td_net_laws.specs.Arrivals.{Arrival, CallHead, head_of, way_of}
+use Rattle.td_net_laws.specs.Steps.{GivesAnswer}
 use Rattle.td_walk.specs.declared.answer.SubAnswer.{SubAnswer}
 
 abbrev pub earlier : (serial : ℕ) → Option Arrival → Bool
@@ -14,18 +14,18 @@ earlier serial None = false
 earlier serial (Some d) = d.visits && nat_lt d.serial serial
 
 -- an earlier call of the same Ask came to this trader, and was neither refused nor passed on along its path
-abbrev pub visited : List Head → (target root serial : ℕ) → Bool
-visited [] target root serial = false
-visited (h ∷ hs) target root serial =
+abbrev pub is_visited : List CallHead → (target root serial : ℕ) → Bool
+is_visited [] target root serial = false
+is_visited (h ∷ hs) target root serial =
     ((h.target == target) && ((h.root == root) && earlier serial h.arrival))
-    || visited hs target root serial
+    || is_visited hs target root serial
 
 abbrev pub TreeBy : List Call → (inside : Ior → Option ℕ) → (c : ℕ) → (Sub : ℕ → SubAnswer → Type 0)
     → (words : List ℕ) → SubAnswer → Call → Option Delivery → Type 0
 TreeBy calls inside c Sub words a k None = ⊥
 TreeBy calls inside c Sub words a k (Some d) =
-    Answered calls inside c Sub words k d.seen.value a (way_of d.seen.value k.query)
-    (not (visited (map head_of calls) k.target k.root d.serial))
+    GivesAnswer calls inside c Sub words k d.seen.value a (way_of d.seen.value k.query)
+    (not (is_visited (map head_of calls) k.target k.root d.serial))
 
 abbrev pub TreeAt : List Call → (inside : Ior → Option ℕ) → (c : ℕ) → (Sub : ℕ → SubAnswer → Type 0)
     → (words : List ℕ) → SubAnswer → Option Call → Type 0

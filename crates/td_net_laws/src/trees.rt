@@ -1,9 +1,10 @@
 //! What the calls of an Ask give.
 
 ghost use Rattle.td_net_laws.specs.Always.{Always};
-ghost use Rattle.td_net_laws.specs.Premises.{AllAnswered, AreNamed, AreUnderOne, OneTree, RunsAreOne, TreesAreOne};
+ghost use Rattle.td_net_laws.specs.Premises.{AllAnswered, CallsGoByIdentifier, AreUnderOne, OneTree, RunsAreOne};
+ghost use Rattle.td_net_laws.specs.Premises.{TreesAreOne};
 
-use td_walk_laws::answers_are_one;
+use td_query_walk::answers_are_one;
 
 /// Whatever comes before an Ask, between its calls and after them, over any number of traders: each of its calls that
 /// has ended gives what one depth-first walk finds at the points of its visits, where the identifier is fresh at the
@@ -20,7 +21,7 @@ pub fn calls_are_answered_by_their_steps()
 /// The calls of an Ask that visit their traders come under one identifier: the one that the Ask states, or else the one
 /// that the first of them makes.
 pub fn asks_have_one_identifier()
-    ensures stated { Always AreNamed }
+    ensures stated { Always CallsGoByIdentifier }
     ensures one { Always AreUnderOne }
 {}
 

@@ -105,9 +105,9 @@ fn whole_schedules(rt: HostRuntime) -> Result<(), Fail> {
     check_schedules(&rt, rt.alloc(), CHECKED)
 }
 
-/// A diamond: A has links to B and C, which both have one to D. Which of the two has D's offers depends on the schedule,
-/// and the answer is one walk's: B's question comes to D first; B's call is lost, and C's comes first; or it is lost, and
-/// B's still comes first. Then a change of D between two visits.
+/// A diamond: A has links to B and C, which both have one to D. Which of the two has D's offers depends on the
+/// schedule, and the answer is one walk's: B's question comes to D first; B's call is lost, and C's comes first; or it
+/// is lost, and B's still comes first. Then a change of D between two visits.
 const WALKS: &str =
     "A!a B!b C!c D!d A>B A>C B>D C>D -> aA/i71/h5 d1 d2 r2 r1 d3 d4 r4 r3 => ......... 0=abdc 4= D#1
 A!a B!b C!c D!d A>B A>C B>D C>D -> aA/i71/h5 d1 l1 d3 d4 d2 r4 r3 => ........ 0=acd 2= 4=d D#1

@@ -28,8 +28,8 @@ fn network(alloc: Global, opened: Opened, words: List<u64>) -> Net {
 }
 
 /// The network of the traders A to D with these words: `TRADERS;RANDOM WORDS`.
-fn network_of(alloc: Global, told: &str) -> Option<Net> {
-    let (traders, words) = told.split_once(';').unwrap_or((told, ""));
+fn network_of(alloc: Global, content: &str) -> Option<Net> {
+    let (traders, words) = content.split_once(';').unwrap_or((content, ""));
     let words = words_of(alloc, words).ok()?;
     let file = file_of(alloc, traders).ok()?;
     if file.len() > 10000 {
@@ -97,19 +97,19 @@ fn are_so(net: &Net, words: &str) -> bool {
     true
 }
 
-fn runs(alloc: Global, net: &mut Net, events: &str, told: &str) -> bool {
-    let (letters, words) = told.split_once(' ').unwrap_or((told, ""));
+fn runs(alloc: Global, net: &mut Net, events: &str, content: &str) -> bool {
+    let (letters, words) = content.split_once(' ').unwrap_or((content, ""));
     are_taken(alloc, net, events, letters.as_bytes()) && are_so(net, words)
 }
 
 /// Whether a line comes to what it tells: `TRADERS;RANDOM WORDS -> EVENTS => LETTERS WORDS`.
 fn is_line_so(alloc: Global, line: &str) -> bool {
-    let (asked, told) = line.split_once(" => ").unwrap_or((line, ""));
+    let (asked, content) = line.split_once(" => ").unwrap_or((line, ""));
     let (network, events) = asked.split_once(" -> ").unwrap_or((asked, ""));
     match network_of(alloc, network) {
         Some(net) => {
             let mut net = net;
-            let passed = runs(alloc, &mut net, events, told);
+            let passed = runs(alloc, &mut net, events, content);
             drop(net);
             passed
         }
@@ -135,10 +135,10 @@ fn events_of(alloc: Global, net: &Net, words: &str) -> Result<List<Event>, Memor
 }
 
 /// Whether a schedule comes to what is told: `.`, or the letter of a fault and the place of its event.
-fn is_told(checked: Result<(), (usize, NetFault)>, told: &str) -> bool {
-    let (letter, place) = told.split_at_checked(1).unwrap_or(("", ""));
+fn is_content(checked: Result<(), (usize, NetFault)>, content: &str) -> bool {
+    let (letter, place) = content.split_at_checked(1).unwrap_or(("", ""));
     match checked {
-        Ok(()) => told == ".",
+        Ok(()) => content == ".",
         Err((at, fault)) => {
             letter.as_bytes().first() == Some(&letter_of(Err(fault)))
                 && place.parse::<usize>() == Ok(at)
@@ -148,13 +148,13 @@ fn is_told(checked: Result<(), (usize, NetFault)>, told: &str) -> bool {
 
 /// Whether the schedule of a line comes to what it tells: `TRADERS;RANDOM WORDS -> EVENTS => TOLD`.
 fn is_schedule_so(alloc: Global, line: &str) -> bool {
-    let (asked, told) = line.split_once(" => ").unwrap_or((line, ""));
+    let (asked, content) = line.split_once(" => ").unwrap_or((line, ""));
     let (network, words) = asked.split_once(" -> ").unwrap_or((asked, ""));
     let Some(net) = network_of(alloc, network) else {
         return false;
     };
     match events_of(alloc, &net, words) {
-        Ok(events) => is_told(check_schedule(net, events), told),
+        Ok(events) => is_content(check_schedule(net, events), content),
         Err(_) => false,
     }
 }

@@ -14,9 +14,9 @@ use Rattle.td_cdr.specs.Format.{number as number_format}
 use Rattle.td_cdr.specs.Gap.{flag}
 use Rattle.td_cdr.specs.Names.{IsTraderName, is_trader_byte}
 use Rattle.td_cdr.specs.Sound.{number, octets, sequence, text}
-use Rattle.td_codes.specs.References.{profile, reference}
-use Rattle.td_codes.specs.declared.reference.Ior.{Ior}
-use Rattle.td_codes.specs.declared.reference.Profile.{Profile}
+use Rattle.td_typecode.specs.References.{profile, reference}
+use Rattle.td_typecode.specs.declared.reference.Ior.{Ior}
+use Rattle.td_typecode.specs.declared.reference.Profile.{Profile}
 use Rattle.td_ior.proofs.Numbers.{and-left, and-right}
 use Rattle.td_ior.specs.Keys.{written_key}
 use Rattle.td_ior.specs.Profiles.{iiop_major, made_octets, made_profile, no_components}

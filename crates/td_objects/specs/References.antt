@@ -3,7 +3,7 @@
 -- of the trader NAME, and so on.
 use Rattle.std.specs.Prelude.{ℕ, ◌≤◌, List, length}
 use Rattle.td_cdr.specs.Text.{HasNoNul}
-use Rattle.td_codes.specs.declared.reference.Ior.{Ior}
+use Rattle.td_typecode.specs.declared.reference.Ior.{Ior}
 use Rattle.td_ior.specs.Keys.{written_key}
 use Rattle.td_ior.specs.Profiles.{made_reference}
 use Rattle.td_policy.specs.declared.attributes.OwnReferences.{OwnReferences}

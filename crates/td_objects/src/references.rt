@@ -18,7 +18,7 @@ use td_walk::Address;
 ///
 /// # Errors
 ///
-/// `Memory` for want of memory alone.
+/// `Memory` only when out of memory.
 pub fn own_reference(
     alloc: Global,
     home: &Address,
@@ -68,7 +68,7 @@ fn two_references(
 ///
 /// # Errors
 ///
-/// `Memory` for want of memory alone.
+/// `Memory` only when out of memory.
 pub fn lookup_and_register(alloc: Global, home: &Address, name: &Text) -> Result<(Ior, Ior), Memory>
     requires { IsAddress home.now }
     ensures lookup { IfOk result (λ p. p.0 ≡ lookup_reference home.now name.now) }
@@ -87,7 +87,7 @@ pub fn lookup_and_register(alloc: Global, home: &Address, name: &Text) -> Result
 ///
 /// # Errors
 ///
-/// `Memory` for want of memory alone.
+/// `Memory` only when out of memory.
 #[tactic(auto, unfolding(crate::specs::References::trader_references))]
 pub fn trader_references(
     alloc: Global,
@@ -118,7 +118,7 @@ pub fn trader_references(
 ///
 /// # Errors
 ///
-/// `Memory` for want of memory alone.
+/// `Memory` only when out of memory.
 pub fn offer_iterator(
     alloc: Global,
     home: &Address,
@@ -143,7 +143,7 @@ pub fn offer_iterator(
 ///
 /// # Errors
 ///
-/// `Memory` for want of memory alone.
+/// `Memory` only when out of memory.
 pub fn iterator_reference(
     alloc: Global,
     home: &Address,

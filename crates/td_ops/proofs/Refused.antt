@@ -17,7 +17,7 @@ use Rattle.td_ops.specs.declared.fault.OpsFault.TheVariants.{BadOperation, NoImp
 use Rattle.td_ops.specs.declared.call.Call.{Call}
 use Rattle.td_ops.specs.declared.operation.Operation.{Operation}
 use Rattle.td_ops.specs.Operations.{first_name, name_of, operations, operation_named, row}
-use Rattle.td_ops.specs.Refusals.{fault_of, told}
+use Rattle.td_ops.specs.Refusals.{fault_of, reading_of}
 use Rattle.td_ops.specs.Calls.{body_of, call_read, read_under}
 use Rattle.td_ops.specs.Called.{operation_in}
 use Rattle.td_ops.specs.Answers.{answer_of, outcome_read}
@@ -27,10 +27,10 @@ use Rattle.td_ops.proofs.Told.{call-unknown}
 
 -- ---- a fault of values, and what a caller is told
 
-told_fault : {X : Type 0} (r : Read ValueFault X) (e : OpsFault) → told r ≡ Err e
+content_fault : {X : Type 0} (r : Read ValueFault X) (e : OpsFault) → reading_of r ≡ Err e
     → (f : ValueFault) × (r ≡ Err f) × (fault_of f ≡ e)
-told_fault (Ok x) e t = absurd cc
-told_fault (Err f) e t = (f, refl, cc)
+content_fault (Ok x) e t = absurd cc
+content_fault (Err f) e t = (f, refl, cc)
 
 left_out : (f : ValueFault) → fault_of f ≡ NoImplement → (code : ℕ) × (f ≡ value.Unsupported code)
 left_out (value.Cdr (cdr.Short place)) e = absurd cc
@@ -47,23 +47,23 @@ left_out value.Memory e = absurd cc
 
 module _ {X : Type 0} (faults : Faults ValueFault) (reading : At → Read ValueFault X) (refuses : Refuses faults reading)
     (a : At) (h : a.origin ≤ a.place) where
-  pub kind-refused : (told (reading a) ≡ Err NoImplement) ↔ UnsupportedKind faults a
+  pub kind-refused : (reading_of (reading a) ≡ Err NoImplement) ↔ UnsupportedKind faults a
   kind-refused = (
-    λ e. let t = told_fault (reading a) NoImplement e in
+    λ e. let t = content_fault (reading a) NoImplement e in
         let code = left_out t.0 t.2 in
         record {
           code = code.0;
-          holds = refuses.told a (value.Unsupported code.0) h
+          holds = refuses.content a (value.Unsupported code.0) h
               (t.1 ∙ ap (λ (f : ValueFault). Err f) code.1);
         },
-    λ u. ap told (refuses.only a (value.Unsupported u.code) h u.holds),
+    λ u. ap reading_of (refuses.only a (value.Unsupported u.code) h u.holds),
   )
 
-  pub place-refused : (place : ℕ) → (told (reading a) ≡ Err (Marshal place)) ↔ Misspelling faults a place
+  pub place-refused : (place : ℕ) → (reading_of (reading a) ≡ Err (Marshal place)) ↔ Misspelling faults a place
   place-refused place = (
-    λ e. let t = told_fault (reading a) (Marshal place) e in
-        record { fault = t.0; holds = refuses.told a t.0 h t.1; told = t.2 },
-    λ m. ap told (refuses.only a m.fault h m.holds) ∙ ap (λ (e : OpsFault). Err e) m.told,
+    λ e. let t = content_fault (reading a) (Marshal place) e in
+        record { fault = t.0; holds = refuses.content a t.0 h t.1; content = t.2 },
+    λ m. ap reading_of (refuses.only a m.fault h m.holds) ∙ ap (λ (e : OpsFault). Err e) m.content,
   )
 
 -- ---- a name that no operation has
@@ -100,7 +100,7 @@ unknown-refused kind name a = (
 -- ---- the parameters of an operation that has the name
 
 under_other : (o : Option Operation) (a : At) (e : OpsFault) → (BadOperation ≡ e → ⊥) → read_under o a ≡ Err e
-    → (operation : Operation) × (o ≡ Some operation) × (told ((body_of operation).reads a) ≡ Err e)
+    → (operation : Operation) × (o ≡ Some operation) × (reading_of ((body_of operation).reads a) ≡ Err e)
 under_other (Some operation) a e other is = (operation, refl, is)
 under_other None a e other is = absurd (other cc)
 

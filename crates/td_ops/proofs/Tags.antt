@@ -41,4 +41,4 @@ row-tag NonExistent = refl
 
 pub called : (o : Operation) (order : Order) (place : ℕ) (c : Call) (b : List ℕ) → (body_of o).spells order place c b
     → operation_in c ≡ o
-called o order place c b s = sym ((row o).body.told order place c b s) ∙ row-tag o
+called o order place c b s = sym ((row o).body.content order place c b s) ∙ row-tag o

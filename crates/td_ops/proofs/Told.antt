@@ -4,7 +4,7 @@ use Rattle.std.proofs.Common.{sym, subst}
 use Rattle.std.specs.Prelude.{◌↔◌}
 use Rattle.td_cdr.specs.Place.{At}
 use Rattle.td_cdr.specs.Reading.{after}
-use Rattle.td_cdr.specs.Spelling.{Found}
+use Rattle.td_cdr.specs.Spelling.{FoundSpelling}
 use Rattle.td_cdr.specs.Format.{Read}
 use Rattle.td_cdr.specs.Lawful.{AreOctets}
 use Rattle.td_cdr.specs.LawfulFormats.{read-admitted, reads_back}
@@ -17,22 +17,22 @@ use Rattle.td_ops.specs.declared.call.Call.{Call}
 use Rattle.td_ops.specs.declared.operation.Operation.{Operation}
 use Rattle.td_ops.specs.Called.{operation_in}
 use Rattle.td_ops.specs.Operations.{name_of, operation_named, row}
-use Rattle.td_ops.specs.Refusals.{told, Answers}
+use Rattle.td_ops.specs.Refusals.{reading_of, ReadsWritable}
 use Rattle.td_ops.specs.Calls.{AdmitsCall, Body, body_of, call_piece, call_read, read_under}
 use Rattle.td_ops.proofs.Tags.{called}
 
-pub told_ok : {X : Type 0} (r : Read ValueFault X) (x : X × At) → told r ≡ Ok x → r ≡ Ok x
-told_ok (Ok y) x e = cc
-told_ok (Err d) x e = absurd cc
+pub content_ok : {X : Type 0} (r : Read ValueFault X) (x : X × At) → reading_of r ≡ Ok x → r ≡ Ok x
+content_ok (Ok y) x e = cc
+content_ok (Err d) x e = absurd cc
 
 -- the operation of a call that was read
 under_ok : (o : Option Operation) (a : At) (x : Call × At) → read_under o a ≡ Ok x
     → (operation : Operation) × (o ≡ Some operation) × ((body_of operation).reads a ≡ Ok x)
-under_ok (Some operation) a x e = (operation, refl, told_ok ((body_of operation).reads a) x e)
+under_ok (Some operation) a x e = (operation, refl, content_ok ((body_of operation).reads a) x e)
 under_ok None a x e = absurd cc
 
 pub call-found : (kind : Kind) (name : List ℕ) (a : At) (c : Call) (next : At) → a.origin ≤ a.place
-    → call_read kind name a ≡ Ok (c, next) → Found (Body kind name) a c next
+    → call_read kind name a ≡ Ok (c, next) → FoundSpelling (Body kind name) a c next
 call-found kind name a c next h e =
     let u = under_ok (operation_named kind name) a (c, next) e in
     let f = (row u.0).body.lawful.found a c next h u.2 in
@@ -47,7 +47,7 @@ pub call-only : (kind : Kind) (name : List ℕ) (a : At) (c : Call) (b rest : Li
     → Body kind name a.order (a.place - a.origin) c b → a.rest ≡ b ++ rest
     → call_read kind name a ≡ Ok (c, after (length b) a)
 call-only kind name a c b rest h s e =
-    rw s.named (ap told ((row s.operation).body.lawful.only a c b rest h s.spelled e))
+    rw s.named (ap reading_of ((row s.operation).body.lawful.only a c b rest h s.spelled e))
 
 pub call-back : (kind : Kind) (c : Call) (a : At) (rest : List ℕ)
     → operation_named kind (name_of (operation_in c)) ≡ Some (operation_in c) → AdmitsCall c → a.origin ≤ a.place
@@ -55,7 +55,7 @@ pub call-back : (kind : Kind) (c : Call) (a : At) (rest : List ℕ)
     → a.rest ≡ call_piece c a.order (a.place - a.origin) ++ rest
     → call_read kind (name_of (operation_in c)) a ≡ Ok (c, after (length (call_piece c a.order (a.place - a.origin))) a)
 call-back kind c a rest named ok h short e =
-    rw named (ap told (reads_back (body_of (operation_in c)) (row (operation_in c)).body.lawful c a rest ok h short e))
+    rw named (ap reading_of (reads_back (body_of (operation_in c)) (row (operation_in c)).body.lawful c a rest ok h short e))
 
 -- what was read under an operation is a call of it
 read-called : (operation : Operation) (c : Call) (old new : At) → old.origin ≤ old.place
@@ -67,16 +67,16 @@ read-called operation c old new h is =
 -- and the answer
 pub call-answered : (kind : Kind) (name : List ℕ) (old new : At) (operation : Operation) (c : Call)
     → operation_named kind name ≡ Some operation → old.origin ≤ old.place → AreOctets old.rest
-    → (body_of operation).reads old ≡ Ok (c, new) → Answers AdmitsCall (call_read kind name old) old new (Ok c)
+    → (body_of operation).reads old ≡ Ok (c, new) → ReadsWritable AdmitsCall (call_read kind name old) old new (Ok c)
 call-answered kind name old new operation c named h octets is = record {
-  gives = rw named (ap told is);
+  gives = rw named (ap reading_of is);
   unchanged = tt;
   admitted =
       subst (λ (o : Operation). (body_of o).admits c) (sym (read-called operation c old new h is))
       (read-admitted (body_of operation) (row operation).body.lawful old c new h octets is);
 }
 
-never_unknown : {X : Type 0} (r : Read ValueFault X) → told r ≡ Err BadOperation → ⊥
+never_unknown : {X : Type 0} (r : Read ValueFault X) → reading_of r ≡ Err BadOperation → ⊥
 never_unknown (Ok x) e = absurd cc
 never_unknown (Err (value.Cdr (cdr.Short place))) e = absurd cc
 never_unknown (Err (value.Cdr (cdr.BadBoolean place))) e = absurd cc

@@ -19,7 +19,7 @@ use Rattle.td_ops.specs.Called.{operation_in}
 use Rattle.td_ops.specs.Operations.{row}
 use Rattle.td_ops.specs.Shapes.{results, shape_of}
 use Rattle.td_ops.specs.Outcomes.{outcome_piece, system_id}
-use Rattle.td_ops.specs.Refusals.{told}
+use Rattle.td_ops.specs.Refusals.{reading_of}
 
 abbrev pub done_answer : Shape → Sound ValueFault Answered
 done_answer shape = variant (λ r. Done r) (elim [ Done r ↦ Some r | _ ↦ None ]) (λ _. refl)
@@ -45,18 +45,18 @@ answer_of operation status =
 
 -- what is told and where the reader then stands, or the first fault
 abbrev pub outcome_read : Call → ℕ → At → Result (Answered × At) OpsFault
-outcome_read c status a = told ((answer_of (operation_in c) status).format.reads a)
+outcome_read c status a = reading_of ((answer_of (operation_in c) status).format.reads a)
 
 -- what a client is told of an outcome
-abbrev pub answered : Outcome → Answered
-answered (outcome.Done r) = Done r
-answered (outcome.User e) = User (user_id e)
-answered (outcome.System kind minor completion) = System (system_id kind) minor completion
+abbrev pub client_answer : Outcome → Answered
+client_answer (outcome.Done r) = Done r
+client_answer (outcome.User e) = User (user_id e)
+client_answer (outcome.System kind minor completion) = System (system_id kind) minor completion
 
 -- the bytes that tell it
-abbrev pub telling : Outcome → Piece
-telling (outcome.User e) = text.format.writes (user_id e)
-telling o = outcome_piece o
+abbrev pub answer_piece : Outcome → Piece
+answer_piece (outcome.User e) = text.format.writes (user_id e)
+answer_piece o = outcome_piece o
 
 -- the outcomes of an operation that can be written: a result of its shape, an exception, whose texts have no NUL and
 -- whose anys, TypeCodes and references are admitted

@@ -29,7 +29,7 @@ pub record UnsupportedKind (faults : Faults ValueFault) (a : At) : Type 0 where
 pub record Misspelling (faults : Faults ValueFault) (a : At) (place : ℕ) : Type 0 where
   pub fault : ValueFault
   pub holds : faults a fault
-  pub told : fault_of fault ≡ Marshal place
+  pub content : fault_of fault ≡ Marshal place
 
 -- ---- of an operation's parameters, and of what answers it
 

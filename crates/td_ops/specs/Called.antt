@@ -1,7 +1,7 @@
 -- The operation of a call, and what an operation is: a name in a request, parameters, and the shape of its result
 -- (CORBA, chapter on General Inter-ORB Protocol, "Request Header", "Request Body" and "Reply Body").
 use Rattle.std.specs.Prelude.{◌≡◌, ℕ, List, Option, Some, None}
-use Rattle.td_cdr.specs.Sound.{Sound, Arm, arm}
+use Rattle.td_cdr.specs.Sound.{Sound, FormatArm, arm}
 use Rattle.td_cdr.specs.declared.value_fault.ValueFault.{ValueFault}
 use Rattle.td_ops.specs.declared.call.Call.{Call}
 use Rattle.td_ops.specs.declared.call.Call.TheVariants as call
@@ -75,7 +75,7 @@ operation_in call.NonExistent = NonExistent
 
 pub record Row : Type 1 where
   pub name : List ℕ
-  pub body : Arm ValueFault Operation Call operation_in
+  pub body : FormatArm ValueFault Operation Call operation_in
   pub result : Shape
 
 -- ---- the parameters of the calls of a class
@@ -86,8 +86,9 @@ of_change from _ = None
 
 abbrev pub change_arm : {X : Type 0} (o : Operation) (to : X → Change) (from : Change → Option X)
     → ((x : X) → from (to x) ≡ Some x) → ((x : X) → o ≡ change_operation (to x))
-    → Sound ValueFault X → Arm ValueFault Operation Call operation_in
-change_arm o to from back told g = arm o (λ x. call.Change (to x)) (of_change from) back told g
+    → Sound ValueFault X → FormatArm ValueFault Operation Call operation_in
+change_arm o to from back content g = arm o (λ x. call.Change (to x)) (of_change from) back content
+    g
 
 abbrev pub of_look : {X : Type 0} → (Look → Option X) → Call → Option X
 of_look from (call.Look l) = from l
@@ -95,8 +96,8 @@ of_look from _ = None
 
 abbrev pub look_arm : {X : Type 0} (o : Operation) (to : X → Look) (from : Look → Option X)
     → ((x : X) → from (to x) ≡ Some x) → ((x : X) → o ≡ look_operation (to x)) → Sound ValueFault X
-    → Arm ValueFault Operation Call operation_in
-look_arm o to from back told g = arm o (λ x. call.Look (to x)) (of_look from) back told g
+    → FormatArm ValueFault Operation Call operation_in
+look_arm o to from back content g = arm o (λ x. call.Look (to x)) (of_look from) back content g
 
 abbrev pub of_iterator : {X : Type 0} → (IterCall → Option X) → Call → Option X
 of_iterator from (call.Iter i) = from i
@@ -105,5 +106,6 @@ of_iterator from _ = None
 abbrev pub iterator_arm : {X : Type 0} (o : Operation) (to : X → IterCall)
     (from : IterCall → Option X)
     → ((x : X) → from (to x) ≡ Some x) → ((x : X) → o ≡ iterator_operation (to x))
-    → Sound ValueFault X → Arm ValueFault Operation Call operation_in
-iterator_arm o to from back told g = arm o (λ x. call.Iter (to x)) (of_iterator from) back told g
+    → Sound ValueFault X → FormatArm ValueFault Operation Call operation_in
+iterator_arm o to from back content g = arm o (λ x. call.Iter (to x)) (of_iterator from) back
+    content g

@@ -12,7 +12,7 @@ use Rattle.td_ops.specs.declared.fault.OpsFault.{OpsFault}
 use Rattle.td_ops.specs.declared.fault.OpsFault.TheVariants.{BadOperation}
 use Rattle.td_ops.specs.Called.{operation_in}
 use Rattle.td_ops.specs.Operations.{operation_named, row}
-use Rattle.td_ops.specs.Refusals.{told}
+use Rattle.td_ops.specs.Refusals.{reading_of}
 
 -- the parameters of an operation
 abbrev pub body_of : Operation → Format ValueFault Call
@@ -27,7 +27,7 @@ pub record Body (kind : Kind) (name : List ℕ) (order : Order) (place : ℕ) (c
 
 -- the call and where the reader then stands, or the first fault; an unknown operation before the body is looked at
 abbrev pub read_under : Option Operation → At → Result (Call × At) OpsFault
-read_under (Some operation) a = told ((body_of operation).reads a)
+read_under (Some operation) a = reading_of ((body_of operation).reads a)
 read_under None a = Err BadOperation
 
 abbrev pub call_read : Kind → List ℕ → At → Result (Call × At) OpsFault

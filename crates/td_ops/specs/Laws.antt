@@ -3,7 +3,7 @@ use Rattle.std.specs.Prelude.{◌≡◌, ℕ, ◌-◌, ◌^◌, ◌<◌, ◌≤�
 use Rattle.td_cdr.specs.declared.order.Order.{Order}
 use Rattle.td_cdr.specs.Place.{At}
 use Rattle.td_cdr.specs.Reading.{after}
-use Rattle.td_cdr.specs.Spelling.{Found}
+use Rattle.td_cdr.specs.Spelling.{FoundSpelling}
 use Rattle.td_value.specs.declared.key.Kind.{Kind}
 use Rattle.td_value.specs.declared.key.Kind.TheVariants.{Admin}
 use Rattle.td_ops.specs.declared.call.Call.{Call}
@@ -15,7 +15,7 @@ use Rattle.td_ops.specs.Called.{operation_in}
 use Rattle.td_ops.specs.Operations.{operations, operation_named, name_of}
 use Rattle.td_ops.specs.Calls.{Body, AdmitsCall, body_of, call_piece, call_read}
 use Rattle.td_ops.specs.Outcomes.{outcome_piece, outcome_status}
-use Rattle.td_ops.specs.Answers.{AdmitsOutcome, answered, outcome_read, telling}
+use Rattle.td_ops.specs.Answers.{AdmitsOutcome, client_answer, outcome_read, answer_piece}
 use Rattle.td_ops.specs.BodyFaults.{UnsupportedKind, Misspelling, IsUnknown, IsNotImplemented, IsMisspelled}
 use Rattle.td_ops.specs.BodyFaults.{answer_faults}
 
@@ -34,7 +34,8 @@ RepositoryStays = (a : At) → call_read Admin (codes "set_type_repos") a ≡ Er
 -- what is read of a call is spelled so
 abbrev pub ReadAsSpelled : Type 0
 ReadAsSpelled = (kind : Kind) (name : List ℕ) (a : At) (c : Call) (next : At)
-    → a.origin ≤ a.place → call_read kind name a ≡ Ok (c, next) → Found (Body kind name) a c next
+    → a.origin ≤ a.place → call_read kind name a ≡ Ok (c, next)
+    → FoundSpelling (Body kind name) a c next
 
 -- what is spelled so is read, whatever follows
 abbrev pub SpelledIsRead : Type 0
@@ -68,7 +69,7 @@ OutcomeReadsBack =
     → a.origin ≤ a.place → length (outcome_piece o a.order (a.place - a.origin)) < 2 ^ 32
     → a.rest ≡ outcome_piece o a.order (a.place - a.origin) ++ rest
     → outcome_read c (outcome_status o) a
-    ≡ Ok (answered o, after (length (telling o a.order (a.place - a.origin))) a)
+    ≡ Ok (client_answer o, after (length (answer_piece o a.order (a.place - a.origin))) a)
 
 -- ---- why a body is refused
 

@@ -3,7 +3,7 @@
 use Rattle.std.specs.Prelude.{refl}
 use Rattle.td_cdr.specs.Sound.{Sound, ◌&◌, structure, text, ulong, sequence}
 use Rattle.td_cdr.specs.declared.value_fault.ValueFault.{ValueFault}
-use Rattle.td_codes.specs.References.{reference}
+use Rattle.td_typecode.specs.References.{reference}
 use Rattle.td_value.specs.Enumerations.{follow_option}
 use Rattle.td_value.specs.Structures.{policy}
 use Rattle.td_value.specs.Unions.{specified_props}

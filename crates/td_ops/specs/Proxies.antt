@@ -2,7 +2,7 @@
 -- in the order of their declaration, and the shape of the result.
 use Rattle.std.specs.Prelude.{List, [], ◌∷◌, codes, Some, None, refl}
 use Rattle.td_cdr.specs.Sound.{◌&◌, text, boolean, sequence}
-use Rattle.td_codes.specs.References.{reference}
+use Rattle.td_typecode.specs.References.{reference}
 use Rattle.td_value.specs.Structures.{property, policy}
 use Rattle.td_ops.specs.declared.call.Change.TheVariants as change
 use Rattle.td_ops.specs.declared.call.Look.TheVariants as look

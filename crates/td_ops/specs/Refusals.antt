@@ -23,20 +23,20 @@ fault_of (value.Indirection place) = Marshal place
 fault_of value.Memory = Memory
 
 -- a reading, with its fault as the caller is told it
-abbrev pub told : {X : Type 0} → Read ValueFault X → Result (X × At) OpsFault
-told (Ok x) = Ok x
-told (Err e) = Err (fault_of e)
+abbrev pub reading_of : {X : Type 0} → Read ValueFault X → Result (X × At) OpsFault
+reading_of (Ok x) = Ok x
+reading_of (Err e) = Err (fault_of e)
 
 -- What a call answered is what reading gives. Memory may run out in place of it, but not where the operation is
 -- unknown.
-abbrev pub Told : {X : Type 0} → At → Result X OpsFault → Result (X × At) OpsFault → Type 0
-Told new (Ok x) reading = reading ≡ Ok (x, new)
-Told new (Err Memory) reading = reading ≡ Err BadOperation → ⊥
-Told new (Err e) reading = reading ≡ Err e
+abbrev pub ReadsAs : {X : Type 0} → At → Result X OpsFault → Result (X × At) OpsFault → Type 0
+ReadsAs new (Ok x) reading = reading ≡ Ok (x, new)
+ReadsAs new (Err Memory) reading = reading ≡ Err BadOperation → ⊥
+ReadsAs new (Err e) reading = reading ≡ Err e
 
 -- A public reader answers what reading gives, and what can be written. It is unchanged where it refuses.
-pub record Answers {X : Type 0} (admits : X → Type 0) (reading : Result (X × At) OpsFault)
+pub record ReadsWritable {X : Type 0} (admits : X → Type 0) (reading : Result (X × At) OpsFault)
     (old new : At) (result : Result X OpsFault) : Type 0 where
-  pub gives : Told new result reading
+  pub gives : ReadsAs new result reading
   pub unchanged : OnErr result (new ≡ old)
   pub admitted : IfOk result admits

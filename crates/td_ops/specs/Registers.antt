@@ -2,7 +2,7 @@
 -- in the order of their declaration, and the shape of the result.
 use Rattle.std.specs.Prelude.{List, [], ◌∷◌, codes, Some, None, refl}
 use Rattle.td_cdr.specs.Sound.{◌&◌, arm, text, sequence}
-use Rattle.td_codes.specs.References.{reference}
+use Rattle.td_typecode.specs.References.{reference}
 use Rattle.td_value.specs.Structures.{property}
 use Rattle.td_ops.specs.declared.call.Call.TheVariants as call
 use Rattle.td_ops.specs.declared.call.Change.TheVariants as change

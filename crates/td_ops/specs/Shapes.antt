@@ -4,7 +4,7 @@ use Rattle.std.specs.Prelude.{Some, None, refl}
 use Rattle.td_cdr.specs.Format.{Piece}
 use Rattle.td_cdr.specs.Sound.{Sound, ◌&◌, variant, constant, text, ulong, boolean, octets, sequence}
 use Rattle.td_cdr.specs.declared.value_fault.ValueFault.{ValueFault}
-use Rattle.td_codes.specs.References.{reference}
+use Rattle.td_typecode.specs.References.{reference}
 use Rattle.td_value.specs.Enumerations.{follow_option}
 use Rattle.td_value.specs.Structures.{incarnation_number, offer, offer_info, link_info, proxy_info, type_struct}
 use Rattle.td_ops.specs.declared.outcome.Reply.{Reply}

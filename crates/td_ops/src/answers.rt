@@ -3,7 +3,7 @@
 ghost use Rattle.std.specs.Prelude.{◌≡◌};
 ghost use Rattle.td_cdr.specs.Format.{Gives};
 ghost use Rattle.td_cdr.specs.ValueFaults.{is_memory};
-ghost use Rattle.td_ops.specs.Refusals.{Answers};
+ghost use Rattle.td_ops.specs.Refusals.{ReadsWritable};
 ghost use Rattle.td_ops.specs.Called.{operation_in};
 ghost use Rattle.td_ops.specs.Answers.{answer_of, outcome_read, system_answer};
 ghost use Rattle.td_ops.specs.Shapes.{results};
@@ -30,7 +30,7 @@ use td_value::{
 ///
 /// The first fault in reading order: `NoImplement` for a TypeCode of a kind that is left out, `Marshal`
 /// with its place for each other one. For a status above 2 that is `Marshal` at the body's place.
-/// `Memory` for want of memory. The reader is then unchanged.
+/// `Memory` when out of memory. The reader is then unchanged.
 pub fn read_outcome(
     alloc: Global,
     call: &Call,
@@ -38,7 +38,7 @@ pub fn read_outcome(
     body: &mut Reader,
 ) -> Result<Answered, OpsFault>
     ensures { let reply = answer_of (operation_in call.now) status in
-        Answers reply.format.admits (outcome_read call.now status body.old)
+        ReadsWritable reply.format.admits (outcome_read call.now status body.old)
         body.old body.new result }
 {
     let operation = operation_in(call);

@@ -19,7 +19,7 @@ pub enum OpsFault {
     /// A TypeCode of a kind that this project leaves out.
     #[error("a TypeCode of that kind is not supported")]
     NoImplement,
-    /// Want of memory.
+    /// Out of memory.
     #[error("there is no memory left")]
     Memory,
 }

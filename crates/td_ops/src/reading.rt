@@ -3,7 +3,7 @@
 ghost use Rattle.std.specs.Prelude.{◌≡◌};
 ghost use Rattle.td_cdr.specs.Format.{Gives};
 ghost use Rattle.td_cdr.specs.ValueFaults.{is_memory};
-ghost use Rattle.td_ops.specs.Refusals.{Answers};
+ghost use Rattle.td_ops.specs.Refusals.{ReadsWritable};
 ghost use Rattle.td_ops.specs.Calls.{AdmitsCall, call_read};
 ghost use Rattle.td_ops.specs.Operations.{row};
 
@@ -26,15 +26,15 @@ use td_value::{FollowOption, Kind};
 ///
 /// `BadOperation` exactly where the object has no such operation, before the body is looked at. Else
 /// the first fault in reading order: `NoImplement` for a TypeCode of a kind that is left out, and for
-/// `set_type_repos` whatever its body; `Marshal` with its place for each other one. `Memory` for want of
-/// memory. The reader is then unchanged.
+/// `set_type_repos` whatever its body; `Marshal` with its place for each other one. `Memory` when out
+/// of memory. The reader is then unchanged.
 pub fn read_call(
     alloc: Global,
     kind: &Kind,
     operation: &[u8],
     body: &mut Reader,
 ) -> Result<Call, OpsFault>
-    ensures { Answers AdmitsCall (call_read kind.now operation.now body.old)
+    ensures { ReadsWritable AdmitsCall (call_read kind.now operation.now body.old)
         body.old body.new result }
 {
     let Some(operation) = operation_named(kind, operation) else {

@@ -33,7 +33,7 @@ pub fn status_of(outcome: &Outcome) -> u32
 ///
 /// # Errors
 ///
-/// `Memory` for want of memory or of room; the writer is then unchanged. An empty result is never
+/// `Memory` when out of memory or of room; the writer is then unchanged. An empty result is never
 /// refused. A number, a truth value, a rule, an incarnation, an id or a stem of at most 64 bytes, or a
 /// system exception is refused only for want of the writer's room, which doesn't grow less then; 100
 /// bytes always suffice for these.

@@ -15,7 +15,7 @@ use td_cdr::{Memory, Spelled, Writer, put_four, put_six, put_three, put_two};
 ///
 /// # Errors
 ///
-/// `Memory` for want of memory or of room; the writer is then unchanged.
+/// `Memory` when out of memory or of room; the writer is then unchanged.
 pub fn write_call(alloc: Global, w: &mut Writer, call: &Call) -> Result<(), Memory>
     ensures { Appends (call_piece call.now) w.old w.new result }
 {

@@ -84,12 +84,12 @@ fn results(rt: HostRuntime) -> Result<(), Fail> {
 
 /// Whether a client is told this: the id of a user exception, or the numbers of a system exception, which all bytes
 /// spell.
-fn is_told(answer: &Answered, whole: bool, outcome: &Outcome) -> bool {
+fn is_content(answer: &Answered, whole: bool, outcome: &Outcome) -> bool {
     match (answer, outcome) {
         (Answered::User(id), Outcome::User(exception)) => id.as_slice() == user_id(exception),
         (
             Answered::System {
-                minor: told,
+                minor: content,
                 completion: done,
                 ..
             },
@@ -98,7 +98,7 @@ fn is_told(answer: &Answered, whole: bool, outcome: &Outcome) -> bool {
                 completion,
                 ..
             },
-        ) => whole && told == minor && done == completion,
+        ) => whole && content == minor && done == completion,
         _ => false,
     }
 }
@@ -116,7 +116,7 @@ fn is_raised(
     let (answer, place) = answer_in(alloc, call.get(), status, &body, order)?;
     let whole = place as usize == body.len();
     Ok(
-        is_told(answer.get(), whole, outcome.get())
+        is_content(answer.get(), whole, outcome.get())
             && is_written(alloc, outcome, status, &body, order)?,
     )
 }

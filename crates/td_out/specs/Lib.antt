@@ -4,4 +4,4 @@ pub mod Calls
 pub mod InMemory
 pub mod Over
 pub mod RandomWords
-pub mod Told
+pub mod SinkTexts

@@ -1,7 +1,7 @@
 //! Which calls of an object in memory fail.
 
 ghost use Rattle.std.specs.Prelude.{◌≡◌, ◌≤◌};
-ghost use Rattle.td_out.specs.Calls.{fails, counted, failed};
+ghost use Rattle.td_out.specs.Calls.{fails, count_call, count_failure};
 
 use td_cdr::List;
 
@@ -37,14 +37,14 @@ impl Calls {
 
     /// Counts a call that is done.
     pub fn count(&mut self)
-        ensures { self.new ≡ counted self.old }
+        ensures { self.new ≡ count_call self.old }
     {
         self.made = self.made.saturating_add(1);
     }
 
     /// Counts a call that failed.
     pub fn count_fault(&mut self)
-        ensures after { self.new ≡ failed self.old }
+        ensures after { self.new ≡ count_failure self.old }
         ensures later { self.old.faults ≤ self.new.faults }
     {
         self.made = self.made.saturating_add(1);

@@ -1,7 +1,7 @@
 //! Random words of ChaCha20.
 
 ghost use Rattle.std.specs.Prelude.{◌≡◌, ℕ, ◌+◌, ◌%◌, ◌^◌, length, Some, replicate};
-ghost use Rattle.td_out.specs.RandomWords.{Seeding, Course, chacha_word, start_of};
+ghost use Rattle.td_out.specs.RandomWords.{StreamSeed, WordPosition, chacha_word, start_of};
 
 use crate::words::Words;
 use rand_chacha::ChaCha20Rng;
@@ -19,9 +19,9 @@ pub struct ChaChaWords {
 impl Model for ChaChaWords {
     ghost use Rattle.std.specs.Prelude.{◌≡◌};
     ghost use Rattle.rand_chacha.specs.ChaCha.{key_of};
-    ghost use Rattle.td_out.specs.RandomWords.{Course};
+    ghost use Rattle.td_out.specs.RandomWords.{WordPosition};
 
-    ghost Value = { Course };
+    ghost Value = { WordPosition };
 
     ghost view = { λ w. record {
       seeding = record { key = w.key; stream = w.generator.stream };

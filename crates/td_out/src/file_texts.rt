@@ -45,7 +45,7 @@ impl<'a, R> FileTexts<'a, R> {
 }
 
 impl<'a, R: Files> Texts for FileTexts<'a, R> {
-    ghost told = { λ _. None };
+    ghost content = { λ _. None };
 
     ghost faults = { λ s. s };
 

@@ -2,8 +2,8 @@
 
 ghost use Rattle.std.specs.Prelude.{◌≡◌, ℕ, List, [], Option, Some};
 ghost use Rattle.std.specs.Io.KnownBytes.{WriteAppends};
-ghost use Rattle.td_out.specs.Causes.{HasCause, Takes};
-ghost use Rattle.td_out.specs.InMemory.{Writes};
+ghost use Rattle.td_out.specs.Causes.{HasCause, TakesPiece};
+ghost use Rattle.td_out.specs.InMemory.{WritesSink};
 
 use crate::calls::Calls;
 use crate::fault::Failed;
@@ -20,9 +20,9 @@ pub struct MemSink {
 }
 
 impl Model for MemSink {
-    ghost use Rattle.td_out.specs.InMemory.{Kept};
+    ghost use Rattle.td_out.specs.InMemory.{SinkState};
 
-    ghost Value = { Kept };
+    ghost Value = { SinkState };
 
     ghost view = { λ s. record { written = s.bytes.items; calls = s.calls } };
 }
@@ -61,11 +61,11 @@ impl Sink for MemSink {
 
     fn write(&mut self, piece: &[u8]) -> Result<usize, Failed>
         ensures same { Unit {0} }
-        ensures some { Takes result piece.now }
+        ensures some { TakesPiece result piece.now }
         ensures bytes { WriteAppends (Some self.old.written)
             (Some self.new.written) result piece.now }
         ensures cause { HasCause self.old.calls.faults self.new.calls.faults result }
-        ensures exact { Writes self.old self.new piece.now result }
+        ensures exact { WritesSink self.old self.new piece.now result }
     {
         if self.calls.fails() {
             self.calls.count_fault();

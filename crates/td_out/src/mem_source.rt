@@ -4,7 +4,7 @@ ghost use Rattle.std.specs.Prelude.{◌≡◌, ℕ, ◌≤◌, min, List, Option
 ghost use Rattle.std.specs.Io.{ReadsAtMost};
 ghost use Rattle.std.specs.Io.KnownBytes.{ReadConsumes};
 ghost use Rattle.td_out.specs.Causes.{HasCause};
-ghost use Rattle.td_out.specs.InMemory.{most_of, Reads};
+ghost use Rattle.td_out.specs.InMemory.{most_of, ReadsSupply};
 
 use crate::calls::Calls;
 use crate::fault::Failed;
@@ -71,7 +71,7 @@ impl Source for MemSource {
         ensures bound { ReadsAtMost result into.new }
         ensures bytes { ReadConsumes (Some self.old.left) (Some self.new.left) result into.new }
         ensures cause { HasCause self.old.calls.faults self.new.calls.faults result }
-        ensures exact { Reads self.old self.new into.old into.new result }
+        ensures exact { ReadsSupply self.old self.new into.old into.new result }
     {
         if self.calls.fails() {
             self.calls.count_fault();

@@ -3,8 +3,8 @@
 ghost use Rattle.std.specs.Prelude.{◌≡◌, ℕ, ◌≤◌, ◌⊎◌, List, Option, Some, option_map, MatchResult};
 ghost use Rattle.std.specs.List.{find};
 ghost use Rattle.std.specs.Str.{bytes_eq};
-ghost use Rattle.td_out.specs.Texts.{Named, HasText};
-ghost use Rattle.td_out.specs.InMemory.{named, as_given, answer_of, left_by};
+ghost use Rattle.td_out.specs.Texts.{NamedText, HasText};
+ghost use Rattle.td_out.specs.InMemory.{named_texts, as_given, answer_of, left_by};
 ghost use Rattle.td_out.specs.declared.fault.TextFault.TheVariants.{Memory as of_memory};
 
 use crate::calls::Calls;
@@ -22,11 +22,11 @@ pub struct MemTexts {
 }
 
 impl Model for MemTexts {
-    ghost use Rattle.td_out.specs.InMemory.{Shelf, named};
+    ghost use Rattle.td_out.specs.InMemory.{Shelf, named_texts};
 
     ghost Value = { Shelf };
 
-    ghost view = { λ s. record { texts = named s.files; calls = s.calls } };
+    ghost view = { λ s. record { texts = named_texts s.files; calls = s.calls } };
 }
 
 impl MemTexts {
@@ -34,7 +34,7 @@ impl MemTexts {
     /// calls that fail, counted from 1.
     pub fn new(files: List<(Text, Octets)>, failing: List<u64>) -> MemTexts
         ensures { result ≡ record {
-          texts = named files;
+          texts = named_texts files;
           calls = record { failing = failing; made = 0; faults = 0 };
         } }
     {
@@ -55,7 +55,7 @@ impl MemTexts {
         as_given(find_text(&self.files, name))
     }
 
-    /// Counts a call that gave no text. Want of memory leaves all as it was.
+    /// Counts a call that gave no text. Out of memory leaves all as it was.
     fn count_refusal(&mut self, fault: TextFault)
         ensures left { self.new ≡ left_by (Err fault) self.old }
         ensures later { self.old.calls.faults ≤ self.new.calls.faults }
@@ -69,7 +69,7 @@ impl MemTexts {
 }
 
 impl Texts for MemTexts {
-    ghost told = { λ s. Some s.texts };
+    ghost content = { λ s. Some s.texts };
 
     ghost faults = { λ s. s.calls.faults };
 

@@ -1,7 +1,7 @@
 //! Random words in memory.
 
 ghost use Rattle.std.specs.Prelude.{◌≡◌, ℕ, ◌+◌, List, drop, length, Some, None};
-ghost use Rattle.td_out.specs.RandomWords.{Drawing, Seeding, word_in};
+ghost use Rattle.td_out.specs.RandomWords.{WordsState, StreamSeed, word_in};
 
 use crate::words::Words;
 use std::marker::Model;
@@ -24,9 +24,9 @@ pub struct MemWords {
 
 impl Model for MemWords {
     ghost use Rattle.std.specs.Prelude.{◌≤◌, length, drop, option_map};
-    ghost use Rattle.td_out.specs.RandomWords.{Drawing};
+    ghost use Rattle.td_out.specs.RandomWords.{WordsState};
 
-    ghost Value = { Drawing };
+    ghost Value = { WordsState };
 
     ghost view = { λ w. record {
       left = drop w.place w.words;

@@ -2,7 +2,7 @@
 
 ghost use Rattle.std.specs.Prelude.{◌≡◌, ℕ, List, Option};
 ghost use Rattle.std.specs.Io.KnownBytes.{WriteAppends};
-ghost use Rattle.td_out.specs.Causes.{HasCause, Takes};
+ghost use Rattle.td_out.specs.Causes.{HasCause, TakesPiece};
 
 use crate::fault::Failed;
 
@@ -25,7 +25,7 @@ pub trait Sink {
     /// `Failed` only where the count of faults rose; no byte was then written, as far as the sink tells.
     fn write(&mut self, piece: &[u8]) -> Result<usize, Failed>
         ensures same { same self.old self.new }
-        ensures some { Takes result piece.now }
+        ensures some { TakesPiece result piece.now }
         ensures bytes { WriteAppends (written self.old) (written self.new) result piece.now }
         ensures cause { HasCause (faults self.old) (faults self.new) result };
 

@@ -2,7 +2,7 @@
 
 ghost use Rattle.std.specs.Prelude.{◌≡◌, Option, None, IfOk, take};
 ghost use Rattle.std.specs.Io.KnownBytes.{WriteAppends, Appends, Keeps};
-ghost use Rattle.td_out.specs.Causes.{HasCause, Takes};
+ghost use Rattle.td_out.specs.Causes.{HasCause, TakesPiece};
 
 use crate::fault::Failed;
 use crate::sink::Sink;
@@ -47,7 +47,7 @@ impl<W: Write> Sink for StdSink<W> {
     /// Of a writer whose bytes are known, they grow by those that it took.
     fn write(&mut self, piece: &[u8]) -> Result<usize, Failed>
         ensures same { Unit {0} }
-        ensures some { Takes result piece.now }
+        ensures some { TakesPiece result piece.now }
         ensures bytes { WriteAppends None None result piece.now }
         ensures cause { HasCause self.old.faults self.new.faults result }
         ensures passed { IfOk result
@@ -66,7 +66,7 @@ impl<W: Write> Sink for StdSink<W> {
 
 /// One write, and the flush after it.
 fn write_through<W: Write>(writer: &mut W, piece: &[u8]) -> Result<usize, Failed>
-    ensures some { Takes result piece.now }
+    ensures some { TakesPiece result piece.now }
     ensures bytes { IfOk result (λ n. Appends (W.contents writer.old) (W.contents writer.new)
         (take n piece.now)) }
 {
@@ -81,7 +81,7 @@ fn write_through<W: Write>(writer: &mut W, piece: &[u8]) -> Result<usize, Failed
 ///
 /// `Failed` where the writer fails, or takes nothing of a piece that isn't empty.
 pub fn write_some<W: Write>(writer: &mut W, piece: &[u8]) -> Result<usize, Failed>
-    ensures some { Takes result piece.now }
+    ensures some { TakesPiece result piece.now }
     ensures bytes { IfOk result (λ n. Appends (W.contents writer.old) (W.contents writer.new)
         (take n piece.now)) }
 {

@@ -1,7 +1,7 @@
 //! Texts by name, such as the server's file.
 
 ghost use Rattle.std.specs.Prelude.{◌≡◌, ℕ, ◌≤◌, List, Option};
-ghost use Rattle.td_out.specs.Texts.{Named, HasText};
+ghost use Rattle.td_out.specs.Texts.{NamedText, HasText};
 
 use crate::fault::TextFault;
 use std::alloc::Global;
@@ -13,7 +13,7 @@ pub(crate) const LONGEST_TEXT: usize = 67_108_864;
 /// Texts by name.
 pub trait Texts {
     /// The texts with their names, where the object tells; of two texts of one name the first counts.
-    ghost told: { Self → Option (List Named) };
+    ghost content: { Self → Option (List NamedText) };
 
     /// How many faults there were. The count never falls, and stands still at 2^64 - 1.
     ghost faults: { Self → ℕ };
@@ -27,19 +27,19 @@ pub trait Texts {
     ///
     /// - `Failed` only where the count of faults rose.
     /// - `TooLong` for a text of more than 64 MiB (67,108,864 bytes).
-    /// - `Memory` for want of memory.
+    /// - `Memory` when out of memory.
     fn text(&mut self, alloc: Global, name: &str) -> Result<Octets, TextFault>
         ensures same { same self.old self.new }
-        ensures kept { told self.new ≡ told self.old }
+        ensures kept { content self.new ≡ content self.old }
         ensures later { faults self.old ≤ faults self.new }
-        ensures gives { HasText (told self.old) name.now (faults self.old)
+        ensures gives { HasText (content self.old) name.now (faults self.old)
             (faults self.new) result };
 
     ghost same_on: { (a b c : Self) → same a b → same b c → same a c };
 }
 
 impl<L: Texts> Texts for &mut L {
-    ghost told = { λ s. L.told s.now };
+    ghost content = { λ s. L.content s.now };
 
     ghost faults = { λ s. L.faults s.now };
 

@@ -1,18 +1,18 @@
 //! Where random words come from.
 
 ghost use Rattle.std.specs.Prelude.{◌≡◌, ℕ, ◌+◌, length, Option, Some};
-ghost use Rattle.td_out.specs.RandomWords.{Seeding};
+ghost use Rattle.td_out.specs.RandomWords.{StreamSeed};
 
 /// Where random words come from.
 pub trait Words {
     /// The last seeding, where there was one.
-    ghost last_seeding: { Self → Option Seeding };
+    ghost last_seeding: { Self → Option StreamSeed };
 
     /// The word to come of a number, counted from 0.
     ghost word: { Self → ℕ → ℕ };
 
     /// The word of a number that comes after a seeding, counted from 0.
-    ghost word_after: { Self → Seeding → ℕ → ℕ };
+    ghost word_after: { Self → StreamSeed → ℕ → ℕ };
 
     /// They are the same words still: of a borrow, that no others were put in their place.
     ghost same: { Self → Self → Type 0 };

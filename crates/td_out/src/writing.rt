@@ -3,7 +3,7 @@
 ghost use Rattle.std.specs.Prelude.{OnErr, OnOk};
 ghost use Rattle.std.specs.Io.KnownBytes.{Appends};
 ghost use Rattle.td_out.specs.Causes.{Rose};
-ghost use Rattle.td_out.specs.Told.{Tells, WritesAll};
+ghost use Rattle.td_out.specs.SinkTexts.{GivesText, WritesAll};
 
 use crate::fault::Failed;
 use crate::sink::Sink;
@@ -16,7 +16,7 @@ use crate::sink::Sink;
 pub fn write_all<E: Sink>(sink: &mut E, text: &[u8]) -> Result<(), Failed>
     ensures writes { WritesAll (E.written sink.old) (E.written sink.new) (E.faults sink.old)
         (E.faults sink.new) text.now result }
-    ensures tells { Tells text.now (E.written sink.old) (E.written sink.new) (E.faults sink.old)
+    ensures tells { GivesText text.now (E.written sink.old) (E.written sink.new) (E.faults sink.old)
         (E.faults sink.new) }
     ensures whole { OnOk result (Appends (E.written sink.old) (E.written sink.new) text.now) }
     ensures failed { OnErr result (Rose (E.faults sink.old) (E.faults sink.new)) }

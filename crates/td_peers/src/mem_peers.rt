@@ -1,7 +1,7 @@
 //! Peers in memory.
 
 ghost use Rattle.std.specs.Prelude.{◌≡◌, ◌≤◌, ◌<◌, [], length, IfOk, OnOk, OnErr, IfSome};
-ghost use Rattle.td_codes.specs.References.{reference};
+ghost use Rattle.td_typecode.specs.References.{reference};
 ghost use Rattle.td_peers.specs.Scripts.{IsPlayed, IsAllowed, AreAllowed, after, entry_at, faults_after, gives};
 ghost use Rattle.td_peers.specs.Scripts.{next_entry, place_for, with_call, without};
 ghost use Rattle.td_walk.specs.Noting.{call_of};
@@ -30,17 +30,17 @@ pub struct MemPeers {
 }
 
 impl Model for MemPeers {
-    ghost use Rattle.td_codes.specs.contracts.code.Any as any_row;
-    ghost use Rattle.td_codes.specs.contracts.code.TypeCode as code_row;
-    ghost use Rattle.td_codes.specs.contracts.reference.Ior as ior_row;
+    ghost use Rattle.td_typecode.specs.contracts.code.Any as any_row;
+    ghost use Rattle.td_typecode.specs.contracts.code.TypeCode as code_row;
+    ghost use Rattle.td_typecode.specs.contracts.reference.Ior as ior_row;
     ghost use Rattle.td_ops.specs.contracts.call.Query as query_row;
     ghost use Rattle.td_peers.specs.contracts.scripted.Scripted as entry_row;
     ghost use Rattle.td_walk.specs.contracts.answer.SubAnswer as answer_row;
     ghost use Rattle.td_walk.specs.contracts.fault.PeerFault as fault_row;
-    ghost use Rattle.td_peers.specs.Scripts.{Played};
+    ghost use Rattle.td_peers.specs.Scripts.{ScriptState};
     ghost use Rattle.td_peers.specs.Storing.{played_code};
 
-    ghost Value = { Played };
+    ghost Value = { ScriptState };
 
     ghost coded = { played_code entry_row.the_row.coded ior_row.the_row.coded
         query_row.the_row.coded code_row.the_row.coded any_row.the_row.coded

@@ -1,10 +1,10 @@
 //! What peers in memory answer.
 
 ghost use Rattle.std.specs.Prelude.{◌≡◌, ℕ, List, IfSome, option_copied};
-ghost use Rattle.td_codes.specs.References.{reference};
-ghost use Rattle.td_codes.specs.declared.code.Any.{Any};
-ghost use Rattle.td_codes.specs.declared.code.TypeCode.{TypeCode};
-ghost use Rattle.td_codes.specs.declared.reference.Ior.{Ior};
+ghost use Rattle.td_typecode.specs.References.{reference};
+ghost use Rattle.td_typecode.specs.declared.code.Any.{Any};
+ghost use Rattle.td_typecode.specs.declared.code.TypeCode.{TypeCode};
+ghost use Rattle.td_typecode.specs.declared.reference.Ior.{Ior};
 ghost use Rattle.td_ops.specs.declared.call.Query.{Query};
 ghost use Rattle.td_peers.specs.Scripts.{gives, given_by, is_given, IsAllowed};
 ghost use Rattle.td_walk.specs.Peering.{Querying, Evaluating, RegisterOf, Resolving, Answered, Evaluated, Referred};

@@ -1,11 +1,11 @@
 -- No type of a policy is a graph, or has one in it.
 use Rattle.std.specs.Prelude.{◌≡◌, ℕ, None, refl, codes, []}
 use Rattle.std.proofs.Common.{◌∷◌}
-use Rattle.td_codes.specs.declared.code.TypeCode.{TypeCode}
-use Rattle.td_codes.specs.declared.code.TypeCode.TheVariants as code
-use Rattle.td_codes.specs.declared.code.TypeCode.TheOpen as c
-use Rattle.td_codes.specs.Layers.{code-boolean, code-ulong, code-octet, code-str, code-enum, code-sequence}
-use Rattle.td_codes.specs.Same.{graph_of}
+use Rattle.td_typecode.specs.declared.code.TypeCode.{TypeCode}
+use Rattle.td_typecode.specs.declared.code.TypeCode.TheVariants as code
+use Rattle.td_typecode.specs.declared.code.TypeCode.TheOpen as c
+use Rattle.td_typecode.specs.Layers.{code-boolean, code-ulong, code-octet, code-str, code-enum, code-sequence}
+use Rattle.td_typecode.specs.Same.{graph_of}
 use Rattle.td_sameness.specs.Graphs.{StandsAlone}
 use Rattle.td_sameness.proofs.Alone.{none-at, tree-at, alone-at, sequence-alone}
 use Rattle.td_policy.specs.Values.{truth, number, rule, texts, octets}

@@ -6,12 +6,12 @@ use Rattle.std.specs.Map.{lookup}
 use Rattle.td_cdr.specs.Format.{◌>>=◌}
 use Rattle.td_cdr.specs.Names.{identifier}
 use Rattle.td_cdr.specs.Seen.{is_among}
-use Rattle.td_codes.specs.Same.{same}
+use Rattle.td_typecode.specs.Same.{same}
 use Rattle.td_value.specs.declared.structures.Policy.{Policy}
-use Rattle.td_policy.specs.Stated.{known, next_stated, nothing, policies, stated, stated_after, stated_value, states}
+use Rattle.td_policy.specs.Stated.{if_known, next_stated, nothing, policies, stated, stated_after, stated_value, states}
 use Rattle.td_policy.specs.Stated.{valid}
 use Rattle.td_policy.specs.Fields.{kind_of, put}
-use Rattle.td_policy.specs.Values.{Kind}
+use Rattle.td_policy.specs.Values.{PolicyKind}
 use Rattle.td_policy.specs.declared.fault.PolicyFault.{PolicyFault}
 use Rattle.td_policy.specs.declared.fault.PolicyFault.TheVariants as fault
 use Rattle.td_policy.specs.declared.stated.Stated.{Stated}
@@ -44,7 +44,7 @@ valid-answered : {A : Type 0} (p : Policy) (o : Option A) → IsAnswered (valid 
 valid-answered p None = tt
 valid-answered p (Some x) = tt
 
-value-answered : {A : Type 0} (kind : Kind A) (p : Policy) → IsAnswered (stated_value kind p)
+value-answered : {A : Type 0} (kind : PolicyKind A) (p : Policy) → IsAnswered (stated_value kind p)
 value-answered kind p =
     when (same p.value.code kind.code) (valid p (kind.value_of p.value.value)) (Err (fault.PolicyTypeMismatch p))
     (valid-answered p (kind.value_of p.value.value)) tt
@@ -52,7 +52,7 @@ value-answered kind p =
 abbrev Answers : States → Type 0
 Answers entry = (p : Policy) (s : Stated) → IsAnswered (entry p s)
 
-stating : {A : Type 0} (kind : Kind A) (put : Option A → Stated → Stated) → Answers (states kind put)
+stating : {A : Type 0} (kind : PolicyKind A) (put : Option A → Stated → Stated) → Answers (states kind put)
 stating kind put p s = bound (stated_value kind p) (λ x. Ok (put x s)) (value-answered kind p) (λ x. tt)
 
 each-answers : AllByRecursion (λ x. Answers x.1) policies
@@ -72,7 +72,7 @@ looked : (test : List ℕ → Bool) (entries : List (List ℕ × States)) → Al
 looked test [] h = tt
 looked test (x ∷ xs) h = found-when (test x.0) x.1 (lookup test xs) h.0 (looked test xs h.1)
 
-known-answered : (found : Option States) (p : Policy) (s : Stated) → FoundAnswers found → IsAnswered (known found p s)
+known-answered : (found : Option States) (p : Policy) (s : Stated) → FoundAnswers found → IsAnswered (if_known found p s)
 known-answered None p s h = tt
 known-answered (Some entry) p s h = h p s
 
@@ -80,7 +80,7 @@ known-answered (Some entry) p s h = h p s
 
 next-answered : (earlier : List (List ℕ)) (s : Stated) (p : Policy) → IsAnswered (next_stated earlier s p)
 next-answered earlier s p =
-    let entry = known (lookup (bytes_eq p.name) policies) p s in
+    let entry = if_known (lookup (bytes_eq p.name) policies) p s in
     when (not (identifier p.name)) (Err (fault.IllegalPolicyName p.name))
     (cond (is_among p.name earlier) (Err (fault.DuplicatePolicyName p.name)) entry) tt
     (when (is_among p.name earlier) (Err (fault.DuplicatePolicyName p.name)) entry tt

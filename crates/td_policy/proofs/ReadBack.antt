@@ -5,16 +5,17 @@ use Rattle.std.proofs.lemmas.Bool.{le-leb}
 use Rattle.std.proofs.lemmas.List.{length-map}
 use Rattle.td_sameness.proofs.Symmetry.{same-refl}
 use Rattle.td_value.specs.Enumerations.{follow_option_number}
-use Rattle.td_codes.specs.Layers.{value-boolean, value-octet, value-ulong, value-str, value-enum, value-items}
-use Rattle.td_codes.specs.Same.{same}
-use Rattle.td_codes.specs.declared.code.TypeCode.TheOpen as c
-use Rattle.td_codes.specs.declared.code.Value.{Value, out-Value}
-use Rattle.td_codes.specs.declared.code.Value.TheVariants as value
+use Rattle.td_typecode.specs.Layers.{value-boolean, value-octet, value-ulong, value-str, value-enum, value-items}
+use Rattle.td_typecode.specs.Same.{same}
+use Rattle.td_typecode.specs.declared.code.TypeCode.TheOpen as c
+use Rattle.td_typecode.specs.declared.code.Value.{Value, out-Value}
+use Rattle.td_typecode.specs.declared.code.Value.TheVariants as value
 use Rattle.td_value.specs.declared.enumerations.FollowOption.{FollowOption}
 use Rattle.td_value.specs.declared.enumerations.FollowOption.TheVariants.{LocalOnly, IfNoLocal, Always}
 use Rattle.td_value.specs.declared.structures.Policy.{Policy}
 use Rattle.td_policy.specs.Stated.{next_stated, nothing, stated, stated_value, states}
-use Rattle.td_policy.specs.Values.{Kind, truth_in, truth, number_in, number, rule_in, rule, items_of, items_in, text_in}
+use Rattle.td_policy.specs.Values.{PolicyKind, truth_in, truth, number_in, number, rule_in, rule, items_of, items_in}
+use Rattle.td_policy.specs.Values.{text_in}
 use Rattle.td_policy.specs.Values.{text_of, texts, octet_in, octet_of, octets, policy}
 use Rattle.td_policy.specs.declared.stated.Stated.{Stated}
 use Rattle.td_policy.proofs.Alone.{truth_alone, number_alone, rule_alone, texts_alone, octets_alone}
@@ -50,7 +51,7 @@ few_enough item_of item again most xs few =
 
 -- ---- a policy
 
-read_back : {A : Type 0} (kind : Kind A) (name : List ℕ) (x : A) → StandsAlone kind.code
+read_back : {A : Type 0} (kind : PolicyKind A) (name : List ℕ) (x : A) → StandsAlone kind.code
     → kind.value_of (kind.value x) ≡ Some x → stated_value kind (policy kind name x) ≡ Ok (Some x)
 read_back kind name x alone held = let alike : same kind.code kind.code ≡ true = same-refl kind.code alone in
     rw (alike, held) refl
@@ -77,7 +78,7 @@ octets_back name xs most few =
     (few_enough octet_of (λ o. value.Octet o) (λ o. ap octet_in (value-octet o)) most xs few)
 
 -- a policy alone, which states one field
-pub alone : {A : Type 0} (kind : Kind A) (put : Option A → Stated → Stated) (p : Policy) (x : A)
+pub alone : {A : Type 0} (kind : PolicyKind A) (put : Option A → Stated → Stated) (p : Policy) (x : A)
     → next_stated [] nothing p ≡ states kind put p nothing → stated_value kind p ≡ Ok (Some x)
     → stated (p ∷ []) ≡ Ok (put (Some x) nothing)
 alone kind put p x listed held = rw (listed, held) refl

@@ -1,4 +1,4 @@
--- What a call answers that reads policies: what its definition comes to, or want of memory.
+-- What a call answers that reads policies: what its definition comes to, or running out of memory.
 use Rattle.std.specs.Prelude.{◌≡◌, Bool, true, false, Result}
 use Rattle.td_cdr.specs.Format.{Unless, Computes}
 use Rattle.td_policy.specs.declared.fault.PolicyFault.{PolicyFault}
@@ -11,11 +11,11 @@ is_memory (fault.PolicyTypeMismatch policy) = false
 is_memory (fault.InvalidPolicyValue policy) = false
 is_memory fault.Memory = true
 
--- this fault, or want of memory
+-- this fault, or running out of memory
 abbrev pub IsFault : PolicyFault → PolicyFault → Type 0
 IsFault f e = Unless (is_memory e) (e ≡ f)
 
--- a call that leaves its value in an argument comes to this, or to want of memory
-abbrev pub Leaves : {U X : Type 0} → Result X PolicyFault → (new : X) → Result U PolicyFault
+-- a call that leaves its value in an argument comes to this, or to running out of memory
+abbrev pub LeavesValue : {U X : Type 0} → Result X PolicyFault → (new : X) → Result U PolicyFault
     → Type 0
-Leaves comes new result = Computes is_memory (λ u. new) result comes
+LeavesValue comes new result = Computes is_memory (λ u. new) result comes

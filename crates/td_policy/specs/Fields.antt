@@ -2,7 +2,7 @@
 -- "Policies").
 use Rattle.std.specs.Prelude.{ℕ, Bool, List, [], ◌∷◌, Option, None, codes}
 use Rattle.td_value.specs.declared.enumerations.FollowOption.{FollowOption}
-use Rattle.td_policy.specs.Values.{Kind, truth, number, rule, texts, octets}
+use Rattle.td_policy.specs.Values.{PolicyKind, truth, number, rule, texts, octets}
 use Rattle.td_policy.specs.declared.stated.Stated.{Stated}
 
 pub data Field : Type 0 where
@@ -38,20 +38,20 @@ name_of use_proxy = codes "use_proxy_offers"
 name_of request_id = codes "request_id"
 
 -- its values, and the type that the policy's value has
-abbrev pub Held : Field → Type 0
-Held exact = Bool
-Held hops = ℕ
-Held follow = FollowOption
-Held match_card = ℕ
-Held return_card = ℕ
-Held search_card = ℕ
-Held start = List (List ℕ)
-Held use_dynamic = Bool
-Held use_modifiable = Bool
-Held use_proxy = Bool
-Held request_id = List ℕ
+abbrev pub FieldValue : Field → Type 0
+FieldValue exact = Bool
+FieldValue hops = ℕ
+FieldValue follow = FollowOption
+FieldValue match_card = ℕ
+FieldValue return_card = ℕ
+FieldValue search_card = ℕ
+FieldValue start = List (List ℕ)
+FieldValue use_dynamic = Bool
+FieldValue use_modifiable = Bool
+FieldValue use_proxy = Bool
+FieldValue request_id = List ℕ
 
-abbrev pub kind_of : (f : Field) → Kind (Held f)
+abbrev pub kind_of : (f : Field) → PolicyKind (FieldValue f)
 kind_of exact = truth
 kind_of hops = number
 kind_of follow = rule
@@ -65,7 +65,7 @@ kind_of use_proxy = truth
 kind_of request_id = octets 256
 
 -- what is stated of it
-abbrev pub value_in : (f : Field) → Stated → Option (Held f)
+abbrev pub value_in : (f : Field) → Stated → Option (FieldValue f)
 value_in exact s = s.exact
 value_in hops s = s.hops
 value_in follow s = s.follow
@@ -79,7 +79,7 @@ value_in use_proxy s = s.use_proxy
 value_in request_id s = s.request_id
 
 -- with this stated of it
-abbrev pub put : (f : Field) → Option (Held f) → Stated → Stated
+abbrev pub put : (f : Field) → Option (FieldValue f) → Stated → Stated
 put exact x s = record s { exact = x }
 put hops x s = record s { hops = x }
 put follow x s = record s { follow = x }

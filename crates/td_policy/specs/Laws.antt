@@ -4,7 +4,7 @@ use Rattle.std.specs.Str.{bytes_eq}
 use Rattle.td_value.specs.declared.enumerations.FollowOption.{FollowOption}
 use Rattle.td_value.specs.declared.structures.Policy.{Policy}
 use Rattle.td_policy.specs.Rules.{IsAtMost, follow, pass_on}
-use Rattle.td_policy.specs.Fields.{Field, Held, kind_of, name_of, nothing, put, value_in}
+use Rattle.td_policy.specs.Fields.{Field, FieldValue, kind_of, name_of, nothing, put, value_in}
 use Rattle.td_policy.specs.Stated.{stated, stated_value}
 use Rattle.td_policy.specs.declared.attributes.Attributes.{Attributes}
 use Rattle.td_policy.specs.declared.stated.Stated.{Stated}
@@ -30,8 +30,9 @@ AloneStates p s = stated (p ∷ []) ≡ Ok s
 
 -- Each policy states the field of its name, and no other: what can be read of its value.
 pub record EachStatesItsField : Type 0 where
-  pub alone : (f : Field) (p : Policy) (x : Held f) → p.name ≡ name_of f
+  pub alone : (f : Field) (p : Policy) (x : FieldValue f) → p.name ≡ name_of f
       → stated_value (kind_of f) p ≡ Ok (Some x) → AloneStates p (put f (Some x) nothing)
-  pub there : (f : Field) (x : Option (Held f)) (s : Stated) → value_in f (put f x s) ≡ x
-  pub apart : (f g : Field) → bytes_eq (name_of g) (name_of f) ≡ false → (x : Option (Held g)) (s : Stated)
+  pub there : (f : Field) (x : Option (FieldValue f)) (s : Stated) → value_in f (put f x s) ≡ x
+  pub apart : (f g : Field) → bytes_eq (name_of g) (name_of f) ≡ false → (x : Option (FieldValue g))
+      (s : Stated)
       → value_in f (put g x s) ≡ value_in f s

@@ -6,10 +6,10 @@ use Rattle.std.specs.Str.{bytes_eq}
 use Rattle.td_cdr.specs.Format.{◌>>=◌}
 use Rattle.td_cdr.specs.Names.{identifier}
 use Rattle.td_cdr.specs.Seen.{is_among}
-use Rattle.td_codes.specs.Same.{same}
+use Rattle.td_typecode.specs.Same.{same}
 use Rattle.td_value.specs.declared.structures.Policy.{Policy}
 use Rattle.td_policy.specs.Fields.{Field, fields, kind_of, name_of, put}
-use Rattle.td_policy.specs.Values.{Kind}
+use Rattle.td_policy.specs.Values.{PolicyKind}
 use Rattle.td_policy.specs.declared.fault.PolicyFault.{PolicyFault}
 use Rattle.td_policy.specs.declared.fault.PolicyFault.TheVariants as fault
 use Rattle.td_policy.specs.declared.stated.Stated.{Stated}
@@ -22,13 +22,13 @@ valid p None = Err (fault.InvalidPolicyValue p)
 valid p (Some x) = Ok (Some x)
 
 -- the value that the policy states, or why it states none
-abbrev pub stated_value : {A : Type 0} → Kind A → Policy → Result (Option A) PolicyFault
+abbrev pub stated_value : {A : Type 0} → PolicyKind A → Policy → Result (Option A) PolicyFault
 stated_value kind p =
     if same p.value.code kind.code then valid p (kind.value_of p.value.value)
     else Err (fault.PolicyTypeMismatch p)
 
 -- a policy of a type, and the field that it states
-abbrev pub states : {A : Type 0} → Kind A → (Option A → Stated → Stated) → Policy → Stated
+abbrev pub states : {A : Type 0} → PolicyKind A → (Option A → Stated → Stated) → Policy → Stated
     → Result Stated PolicyFault
 states kind put p s = stated_value kind p >>= λ x. Ok (put x s)
 
@@ -40,13 +40,13 @@ abbrev pub policies : List (List ℕ × (Policy → Stated → Result Stated Pol
 policies = map entry fields
 
 -- a policy of an unknown name states nothing
-abbrev pub known : Option (Policy → Stated → Result Stated PolicyFault) → Policy → Stated
+abbrev pub if_known : Option (Policy → Stated → Result Stated PolicyFault) → Policy → Stated
     → Result Stated PolicyFault
-known None p s = Ok s
-known (Some entry) p s = entry p s
+if_known None p s = Ok s
+if_known (Some entry) p s = entry p s
 
 abbrev pub with_policy : Policy → Stated → Result Stated PolicyFault
-with_policy p s = known (lookup (bytes_eq p.name) policies) p s
+with_policy p s = if_known (lookup (bytes_eq p.name) policies) p s
 
 -- ---- a list of policies
 

@@ -3,17 +3,17 @@
 use Rattle.std.specs.Prelude.{ℕ, nat_eq, nat_le, Bool, if◌then◌else◌, List, [], ◌∷◌, length, map, Option, Some, None}
 use Rattle.std.specs.Prelude.{codes}
 use Rattle.td_value.specs.Enumerations.{follow_option_number}
-use Rattle.td_codes.specs.Labels.{Held}
-use Rattle.td_codes.specs.declared.code.TypeCode.{TypeCode}
-use Rattle.td_codes.specs.declared.code.TypeCode.TheVariants as code
-use Rattle.td_codes.specs.declared.code.TypeCode.TheOpen as c
-use Rattle.td_codes.specs.declared.code.Value.{Value, out-Value}
-use Rattle.td_codes.specs.declared.code.Value.TheVariants as value
+use Rattle.td_typecode.specs.Labels.{ValueLayer}
+use Rattle.td_typecode.specs.declared.code.TypeCode.{TypeCode}
+use Rattle.td_typecode.specs.declared.code.TypeCode.TheVariants as code
+use Rattle.td_typecode.specs.declared.code.TypeCode.TheOpen as c
+use Rattle.td_typecode.specs.declared.code.Value.{Value, out-Value}
+use Rattle.td_typecode.specs.declared.code.Value.TheVariants as value
 use Rattle.td_value.specs.declared.enumerations.FollowOption.{FollowOption}
 use Rattle.td_value.specs.declared.enumerations.FollowOption.TheVariants.{LocalOnly, IfNoLocal, Always}
 use Rattle.td_value.specs.declared.structures.Policy.{Policy}
 
-pub record Kind (A : Type 0) : Type 0 where
+pub record PolicyKind (A : Type 0) : Type 0 where
   pub code : TypeCode
   -- the value that is held, if it may stand there
   pub value_of : Value → Option A
@@ -21,11 +21,11 @@ pub record Kind (A : Type 0) : Type 0 where
 
 -- ---- a truth value
 
-abbrev pub truth_in : Held → Option Bool
+abbrev pub truth_in : ValueLayer → Option Bool
 truth_in (c.Value::Boolean b) = Some b
 truth_in l = None
 
-abbrev pub truth : Kind Bool
+abbrev pub truth : PolicyKind Bool
 truth = record {
   code = code.Boolean;
   value_of = λ v. truth_in (out-Value v);
@@ -34,11 +34,11 @@ truth = record {
 
 -- ---- a number
 
-abbrev pub number_in : Held → Option ℕ
+abbrev pub number_in : ValueLayer → Option ℕ
 number_in (c.Value::ULong n) = Some n
 number_in l = None
 
-abbrev pub number : Kind ℕ
+abbrev pub number : PolicyKind ℕ
 number = record {
   code = code.ULong;
   value_of = λ v. number_in (out-Value v);
@@ -58,11 +58,11 @@ rule_numbered n =
     then Some Always
     else None
 
-abbrev pub rule_in : Held → Option FollowOption
+abbrev pub rule_in : ValueLayer → Option FollowOption
 rule_in (c.Value::Enum n) = rule_numbered n
 rule_in l = None
 
-abbrev pub rule : Kind FollowOption
+abbrev pub rule : PolicyKind FollowOption
 rule = record {
   code = rule_code;
   value_of = λ v. rule_in (out-Value v);
@@ -81,41 +81,41 @@ abbrev pub items_of : {A : Type 0} → (Value → Option A) → List Value → O
 items_of item_of [] = Some []
 items_of item_of (v ∷ vs) = one_more (item_of v) (items_of item_of vs)
 
-abbrev pub items_in : {A : Type 0} → (Value → Option A) → (most : ℕ) → Held → Option (List A)
+abbrev pub items_in : {A : Type 0} → (Value → Option A) → (most : ℕ) → ValueLayer → Option (List A)
 items_in item_of most (c.Items vs) = if nat_le (length vs) most then items_of item_of vs else None
 items_in item_of most l = None
 
 abbrev pub sequence : {A : Type 0} → TypeCode → (Value → Option A) → (A → Value) → (most : ℕ)
-    → Kind (List A)
+    → PolicyKind (List A)
 sequence item_code item_of item most = record {
   code = code.Sequence item_code 0;
   value_of = λ v. items_in item_of most (out-Value v);
   value = λ xs. value.Items (map item xs);
 }
 
-abbrev pub text_in : Held → Option (List ℕ)
+abbrev pub text_in : ValueLayer → Option (List ℕ)
 text_in (c.Value::Str t) = Some t
 text_in l = None
 
 abbrev pub text_of : Value → Option (List ℕ)
 text_of v = text_in (out-Value v)
 
-abbrev pub octet_in : Held → Option ℕ
+abbrev pub octet_in : ValueLayer → Option ℕ
 octet_in (c.Value::Octet o) = Some o
 octet_in l = None
 
 abbrev pub octet_of : Value → Option ℕ
 octet_of v = octet_in (out-Value v)
 
-abbrev pub texts : (most : ℕ) → Kind (List (List ℕ))
+abbrev pub texts : (most : ℕ) → PolicyKind (List (List ℕ))
 texts = sequence (code.Str 0) text_of (λ t. value.Str t)
 
-abbrev pub octets : (most : ℕ) → Kind (List ℕ)
+abbrev pub octets : (most : ℕ) → PolicyKind (List ℕ)
 octets = sequence code.Octet octet_of (λ o. value.Octet o)
 
 -- ---- a policy as a trader writes it
 
-abbrev pub policy : {A : Type 0} → Kind A → (name : List ℕ) → A → Policy
+abbrev pub policy : {A : Type 0} → PolicyKind A → (name : List ℕ) → A → Policy
 policy kind name x = record {
   name = name;
   value = record { code = kind.code; value = kind.value x };

@@ -154,7 +154,7 @@ pub struct OwnReferences {
 ///
 /// # Errors
 ///
-/// `Memory` for want of memory alone; the references are then dropped.
+/// `Memory` only when out of memory; the references are then dropped.
 pub fn default_attributes(
     alloc: Global,
     name: &Text,

@@ -1,7 +1,7 @@
 //! The TypeCodes of policies, as a trader writes them (OMG's Trading Object Service, "Policies").
 
 ghost use Rattle.std.specs.Prelude.{◌≡◌, IfOk, ◌∷◌, [], codes};
-ghost use Rattle.td_codes.specs.Same.{same};
+ghost use Rattle.td_typecode.specs.Same.{same};
 ghost use Rattle.td_policy.specs.Values.{truth, number, rule, texts, octets};
 
 use std::alloc::Global;
@@ -13,7 +13,7 @@ use td_value::TypeCode;
 ///
 /// # Errors
 ///
-/// `Memory` for want of memory alone.
+/// `Memory` only when out of memory.
 pub fn rule_code(alloc: Global) -> Result<TypeCode, Memory>
     ensures { IfOk result (λ c. c ≡ rule.code) }
 {
@@ -40,7 +40,7 @@ fn rule_labels(alloc: Global) -> Result<Boxed<List<Text>>, Memory>
 ///
 /// # Errors
 ///
-/// `Memory` for want of memory alone.
+/// `Memory` only when out of memory.
 pub fn texts_code(alloc: Global) -> Result<TypeCode, Memory>
     ensures { IfOk result (λ c. c ≡ (texts 0).code) }
 {
@@ -52,7 +52,7 @@ pub fn texts_code(alloc: Global) -> Result<TypeCode, Memory>
 ///
 /// # Errors
 ///
-/// `Memory` for want of memory alone.
+/// `Memory` only when out of memory.
 pub fn octets_code(alloc: Global) -> Result<TypeCode, Memory>
     ensures { IfOk result (λ c. c ≡ (octets 0).code) }
 {
@@ -78,7 +78,7 @@ pub(crate) fn is_number(code: &TypeCode) -> bool
 ///
 /// # Errors
 ///
-/// `Memory` for want of memory alone.
+/// `Memory` only when out of memory.
 pub fn is_rule(alloc: Global, code: &TypeCode) -> Result<bool, Memory>
     ensures { IfOk result (λ b. b ≡ same code.now rule.code) }
 {

@@ -43,7 +43,7 @@ impl Drop for Effective {
 ///
 /// # Errors
 ///
-/// `Memory` for want of memory alone.
+/// `Memory` only when out of memory.
 pub fn effective_of(
     alloc: Global,
     stated: &Stated,

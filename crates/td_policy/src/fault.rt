@@ -19,7 +19,7 @@ pub enum PolicyFault {
     PolicyTypeMismatch(Boxed<Policy>),
     /// The policy's value is of the right type, and may not stand there.
     InvalidPolicyValue(Boxed<Policy>),
-    /// Want of memory.
+    /// Out of memory.
     Memory,
 }
 

@@ -66,8 +66,8 @@ pub fn each_policy_states_its_field()
     ensures { EachStatesItsField }
 {}
 
-/// As it is defined, a list of policies states something, or an exception refuses it: want of memory is
+/// As it is defined, a list of policies states something, or an exception refuses it: running out of memory is
 /// the code's alone.
-pub fn policies_come_to_no_want_of_memory()
+pub fn policies_never_run_out_of_memory()
     ensures { (ps : List Policy) → stated ps ≡ Err memory → ⊥ }
 {}

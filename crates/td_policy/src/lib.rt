@@ -19,7 +19,7 @@ pub use effective::{Effective, effective_of};
 pub use fault::PolicyFault;
 pub use laws::{
     each_policy_states_its_field, effective_values_are_bounded, followed_rules_are_bounded,
-    passed_on_rules_are_bounded, policies_come_to_no_want_of_memory, the_first_bad_policy_decides,
+    passed_on_rules_are_bounded, policies_never_run_out_of_memory, the_first_bad_policy_decides,
     written_policies_are_read_back,
 };
 pub use reading::read_policies;

@@ -2,7 +2,7 @@
 
 ghost use Rattle.std.specs.Prelude.{◌≡◌};
 ghost use Rattle.td_cdr.specs.Format.{Computes};
-ghost use Rattle.td_policy.specs.Faults.{is_memory, Leaves};
+ghost use Rattle.td_policy.specs.Faults.{is_memory, LeavesValue};
 ghost use Rattle.td_policy.specs.Stated.{nothing, stated, with_policy};
 
 use crate::fault::PolicyFault;
@@ -20,12 +20,12 @@ use td_value::Policy;
 /// where its name is no identifier; `DuplicatePolicyName`, where an earlier policy has its name;
 /// `PolicyTypeMismatch`, where its value's type isn't the same as the policy's;
 /// `InvalidPolicyValue`, for more than 64 names in starting_trader, more than 256 octets in
-/// request_id, and a value that isn't of its own type. `Memory` for want of memory.
+/// request_id, and a value that isn't of its own type. `Memory` when out of memory.
 pub fn read_policies(alloc: Global, policies: &List<Policy>) -> Result<Stated, PolicyFault>
     ensures { Computes is_memory (λ s. s) result (stated policies.now) }
 {
     let mut seen = nothing_seen(alloc);
-    let mut stated = nothing();
+    let mut stated = states_nothing();
     for policy in policies.as_slice() {
         if !is_identifier(policy.name.as_slice()) {
             return Err(PolicyFault::IllegalPolicyName(policy.name.copy(alloc)?));
@@ -39,7 +39,7 @@ pub fn read_policies(alloc: Global, policies: &List<Policy>) -> Result<Stated, P
 }
 
 /// Nothing is stated.
-fn nothing() -> Stated
+fn states_nothing() -> Stated
     ensures { result ≡ nothing }
 {
     Stated {
@@ -59,7 +59,7 @@ fn nothing() -> Stated
 
 /// Adds what one policy states.
 fn add_policy(alloc: Global, policy: &Policy, stated: &mut Stated) -> Result<(), PolicyFault>
-    ensures { Leaves (with_policy policy.now stated.old) stated.new result }
+    ensures { LeavesValue (with_policy policy.now stated.old) stated.new result }
 {
     let name = policy.name.as_slice();
     if name == b"exact_type_match".as_slice() {

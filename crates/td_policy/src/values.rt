@@ -2,7 +2,7 @@
 
 ghost use Rattle.std.specs.Prelude.{◌≡◌, IfOk, option_copied};
 ghost use Rattle.td_policy.specs.declared.fault.PolicyFault.TheVariants as fault;
-ghost use Rattle.td_policy.specs.Faults.{IsFault, Leaves};
+ghost use Rattle.td_policy.specs.Faults.{IsFault, LeavesValue};
 ghost use Rattle.td_policy.specs.Stated.{stated_value};
 ghost use Rattle.td_policy.specs.Values.{truth, number, rule, rule_numbered, texts, octets, items_of, text_of};
 ghost use Rattle.td_policy.specs.Values.{octet_of};
@@ -25,7 +25,7 @@ pub(crate) fn put_truth(
     policy: &Policy,
     field: &mut Option<bool>,
 ) -> Result<(), PolicyFault>
-    ensures { Leaves (stated_value truth policy.now) field.new result }
+    ensures { LeavesValue (stated_value truth policy.now) field.new result }
 {
     if !is_truth(&policy.value.code) {
         return Err(type_mismatch(alloc, policy));
@@ -45,7 +45,7 @@ pub(crate) fn put_number(
     policy: &Policy,
     field: &mut Option<u32>,
 ) -> Result<(), PolicyFault>
-    ensures { Leaves (stated_value number policy.now) field.new result }
+    ensures { LeavesValue (stated_value number policy.now) field.new result }
 {
     if !is_number(&policy.value.code) {
         return Err(type_mismatch(alloc, policy));
@@ -65,7 +65,7 @@ pub(crate) fn put_rule(
     policy: &Policy,
     field: &mut Option<FollowOption>,
 ) -> Result<(), PolicyFault>
-    ensures { Leaves (stated_value rule policy.now) field.new result }
+    ensures { LeavesValue (stated_value rule policy.now) field.new result }
 {
     if !is_rule(alloc, &policy.value.code)? {
         return Err(type_mismatch(alloc, policy));
@@ -85,7 +85,7 @@ pub(crate) fn put_texts(
     policy: &Policy,
     field: &mut Option<List<Text>>,
 ) -> Result<(), PolicyFault>
-    ensures { Leaves (stated_value (texts 64) policy.now) field.new result }
+    ensures { LeavesValue (stated_value (texts 64) policy.now) field.new result }
 {
     if !is_texts(alloc, &policy.value.code)? {
         return Err(type_mismatch(alloc, policy));
@@ -105,7 +105,7 @@ pub(crate) fn put_octets(
     policy: &Policy,
     field: &mut Option<Octets>,
 ) -> Result<(), PolicyFault>
-    ensures { Leaves (stated_value (octets 256) policy.now) field.new result }
+    ensures { LeavesValue (stated_value (octets 256) policy.now) field.new result }
 {
     if !is_octets(alloc, &policy.value.code)? {
         return Err(type_mismatch(alloc, policy));

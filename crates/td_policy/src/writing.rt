@@ -1,7 +1,7 @@
 //! Single policies, as a trader writes them (OMG's Trading Object Service, "Policies").
 
 ghost use Rattle.std.specs.Prelude.{◌≡◌, map, IfOk};
-ghost use Rattle.td_codes.specs.declared.code.Value.TheVariants as value;
+ghost use Rattle.td_typecode.specs.declared.code.Value.TheVariants as value;
 ghost use Rattle.td_policy.specs.Values.{policy, truth, number, rule, texts, octets};
 
 use crate::codes::{octets_code, rule_code, texts_code};
@@ -13,7 +13,7 @@ use td_value::{Any, FollowOption, Policy, TypeCode, Value};
 ///
 /// # Errors
 ///
-/// `Memory` for want of memory alone.
+/// `Memory` only when out of memory.
 pub fn truth_policy(alloc: Global, name: &[u8], b: bool) -> Result<Policy, Memory>
     ensures { IfOk result (λ p. p ≡ policy truth name.now b) }
 {
@@ -26,7 +26,7 @@ pub fn truth_policy(alloc: Global, name: &[u8], b: bool) -> Result<Policy, Memor
 ///
 /// # Errors
 ///
-/// `Memory` for want of memory alone.
+/// `Memory` only when out of memory.
 pub fn number_policy(alloc: Global, name: &[u8], n: u32) -> Result<Policy, Memory>
     ensures { IfOk result (λ p. p ≡ policy number name.now n) }
 {
@@ -39,7 +39,7 @@ pub fn number_policy(alloc: Global, name: &[u8], n: u32) -> Result<Policy, Memor
 ///
 /// # Errors
 ///
-/// `Memory` for want of memory alone.
+/// `Memory` only when out of memory.
 pub fn rule_policy(alloc: Global, name: &[u8], r: FollowOption) -> Result<Policy, Memory>
     ensures { IfOk result (λ p. p ≡ policy rule name.now r) }
 {
@@ -52,7 +52,7 @@ pub fn rule_policy(alloc: Global, name: &[u8], r: FollowOption) -> Result<Policy
 ///
 /// # Errors
 ///
-/// `Memory` for want of memory alone.
+/// `Memory` only when out of memory.
 pub fn texts_policy(alloc: Global, name: &[u8], items: &[Text]) -> Result<Policy, Memory>
     ensures { IfOk result (λ p. p ≡ policy (texts 0) name.now items.now) }
 {
@@ -66,7 +66,7 @@ pub fn texts_policy(alloc: Global, name: &[u8], items: &[Text]) -> Result<Policy
 ///
 /// # Errors
 ///
-/// `Memory` for want of memory alone.
+/// `Memory` only when out of memory.
 pub fn octets_policy(alloc: Global, name: &[u8], items: &[u8]) -> Result<Policy, Memory>
     ensures { IfOk result (λ p. p ≡ policy (octets 0) name.now items.now) }
 {

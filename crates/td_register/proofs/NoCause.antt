@@ -2,7 +2,7 @@
 use Rattle.std.proofs.Common.{◌≡◌, ◌<◌, ◌≤◌, ◌||◌, ℕ, Bool, true, false, not, is_some, List, [], None, Some, length}
 use Rattle.std.proofs.Common.{nat_le, nat_lt, refl, ltb-false}
 use Rattle.std.proofs.lemmas.Bool.{leb-false}
-use Rattle.td_codes.specs.declared.reference.Ior.{Ior}
+use Rattle.td_typecode.specs.declared.reference.Ior.{Ior}
 use Rattle.td_exceptions.specs.declared.exception.UserException.{UserException}
 use Rattle.td_exceptions.specs.declared.exception.UserException.TheVariants as user
 use Rattle.td_ior.specs.Nil.{is_nil}
@@ -11,9 +11,9 @@ use Rattle.td_store.specs.OfferLists.{most_offers}
 use Rattle.td_store.specs.Stores.{most_bytes, most_properties}
 use Rattle.td_value.specs.declared.structures.Policy.{Policy}
 use Rattle.td_value.specs.declared.structures.Property.{Property}
-use Rattle.td_register.specs.Causes.{Cause, given, limit_if, raise_if, unless_supported, ◌otherwise◌}
+use Rattle.td_register.specs.Causes.{Cause, with_cause, limit_if, raise_if, unless_supported, ◌otherwise◌}
 use Rattle.td_register.specs.Named.{open_type}
-use Rattle.td_register.specs.Properties.{encoded, is_too_large}
+use Rattle.td_register.specs.Properties.{encoded_size, is_too_large}
 use Rattle.td_register.specs.Proxies.{export_proxy_cause, is_recipe, policies_cause}
 use Rattle.td_register.specs.Registers.{export_cause, interface_cause, last_number, no_more, offer_cause, passes_limit}
 use Rattle.td_register.specs.Stores.{Store}
@@ -54,10 +54,10 @@ three-false false false c h = (refl, refl, h)
 -- ---- the limits of a new offer
 
 pub small : (object : Ior) (ps : List Property) → is_too_large object ps ≡ false
-    → (length ps ≤ most_properties) × (encoded object ps ≤ most_bytes)
+    → (length ps ≤ most_properties) × (encoded_size object ps ≤ most_bytes)
 small object ps h =
-    let b = two-false (nat_lt most_properties (length ps)) (nat_lt most_bytes (encoded object ps)) h in
-    (ltb-false most_properties (length ps) b.0, ltb-false most_bytes (encoded object ps) b.1)
+    let b = two-false (nat_lt most_properties (length ps)) (nat_lt most_bytes (encoded_size object ps)) h in
+    (ltb-false most_properties (length ps) b.0, ltb-false most_bytes (encoded_size object ps) b.1)
 
 -- one offer more, and one number, are left; and the offer is small
 pub record HasRoomFor (s : Store) (object : Ior) (ps : List Property) : Type 0 where
@@ -82,14 +82,14 @@ within s object ps h =
 module _ (s : Store) (object : Ior) (type_name : List ℕ) (ps : List Property) where
   pub record NoExportCause : Type 0 where
     pub target : is_nil object ≡ false
-    pub typed : given (open_type s.types.types type_name) (interface_cause s type_name object) ≡ None
+    pub typed : with_cause (open_type s.types.types type_name) (interface_cause s type_name object) ≡ None
     pub offer : offer_cause s type_name ps ≡ None
     pub room : HasRoomFor s object ps
 
   pub no_export_cause : export_cause s object type_name ps ≡ None → NoExportCause
   no_export_cause h =
       let nil = raise_if (is_nil object) (user.InvalidObjectRef object) in
-      let typed = given (open_type s.types.types type_name) (interface_cause s type_name object) in
+      let typed = with_cause (open_type s.types.types type_name) (interface_cause s type_name object) in
       let offer = offer_cause s type_name ps in
       let limit = limit_if (passes_limit s object ps) in
       let behind = no-later nil (typed otherwise offer otherwise limit) h in
@@ -104,14 +104,14 @@ module _ (s : Store) (object : Ior) (type_name : List ℕ) (ps : List Property) 
 
   module _ (recipe : List ℕ) (policies : List Policy) where
     pub record NoProxyCause : Type 0 where
-      pub typed : given (open_type s.types.types type_name) no_more ≡ None
+      pub typed : with_cause (open_type s.types.types type_name) no_more ≡ None
       pub offer : offer_cause s type_name ps ≡ None
       pub room : HasRoomFor s object ps
 
     pub no_proxy_cause : export_proxy_cause s object type_name ps recipe policies ≡ None → NoProxyCause
     no_proxy_cause h =
         let can = unless_supported s.attributes.supports_proxy_offers in
-        let typed = given (open_type s.types.types type_name) no_more in
+        let typed = with_cause (open_type s.types.types type_name) no_more in
         let reached = raise_if (not (is_some (iiop_of object))) (user.InvalidLookupRef object) in
         let offer = offer_cause s type_name ps in
         let spelled = raise_if (not (is_recipe recipe)) (user.IllegalRecipe recipe) in

@@ -8,10 +8,10 @@ use Rattle.td_types.specs.Repository.{mask_in, type_named}
 use Rattle.td_types.specs.declared.entry.ServiceType.{ServiceType}
 use Rattle.td_ops.specs.declared.call.Change.{Change}
 use Rattle.td_ops.specs.declared.outcome.Reply.{Reply}
-use Rattle.td_register.specs.Causes.{Cause, Found, given, raise, raise_if, there, unless_full, ◌otherwise◌}
+use Rattle.td_register.specs.Causes.{Cause, OrRefusal, with_cause, raise, raise_if, there, unless_full, ◌otherwise◌}
 use Rattle.td_register.specs.Entries.{entry}
-use Rattle.td_register.specs.Judged.{Accepts, IsMet, Judges}
-use Rattle.td_register.specs.Named.{open_type, unmasked}
+use Rattle.td_register.specs.Judged.{AcceptsChange, IsMet, IsFirstCause}
+use Rattle.td_register.specs.Named.{open_type, if_unmasked}
 use Rattle.td_register.specs.Registers.{no_more}
 use Rattle.td_register.specs.declared.history.Accepted.{Accepted}
 use Rattle.td_register.specs.declared.refusal.Fault.{Fault}
@@ -30,7 +30,7 @@ pub second : (a b : Cause) (f : Fault) → a ≡ None → IsMet b f → IsMet (a
 second a b f e h = rw e h
 
 -- the same of a call that judges by the second
-pub later : {X : Type 0} (a b : Cause) (r : Result X Fault) → a ≡ None → Judges b r → Judges (a otherwise b) r
+pub later : {X : Type 0} (a b : Cause) (r : Result X Fault) → a ≡ None → IsFirstCause b r → IsFirstCause (a otherwise b) r
 later a b r e h = rw e h
 
 pub neither : (a b : Cause) → a ≡ None → b ≡ None → (a otherwise b) ≡ None
@@ -59,41 +59,41 @@ carries a b Memory on h = tt
 
 -- ---- a change that is refused or accepted
 
-module _ (c : Change) (full : Bool) (cause : Cause) (told : Reply) (s after : Store) where
-  pub is_refused : (f : Fault) → IsMet cause f → Accepts c (unless_full full cause told after) s s (Err f)
+module _ (c : Change) (full : Bool) (cause : Cause) (content : Reply) (s after : Store) where
+  pub is_refused : (f : Fault) → IsMet cause f → AcceptsChange c (unless_full full cause content after) s s (Err f)
   is_refused (Refused x) h = (rw h refl, refl)
   is_refused Memory h = refl
 
   -- nothing is at fault, but no more changes are accepted
   pub is_full : cause ≡ None → full ≡ true →
-      Accepts c (unless_full full cause told after) s s (Err (Refused Limit))
+      AcceptsChange c (unless_full full cause content after) s s (Err (Refused Limit))
   is_full h e = (rw (h, e) refl, refl)
 
-  pub is_accepted : (a : Accepted) (new : Store) → cause ≡ None → full ≡ false → a ≡ entry c told → new ≡ after →
-      Accepts c (unless_full full cause told after) s new (Ok a)
+  pub is_accepted : (a : Accepted) (new : Store) → cause ≡ None → full ≡ false → a ≡ entry c content → new ≡ after →
+      AcceptsChange c (unless_full full cause content after) s new (Ok a)
   is_accepted a new h e is same = rw (is, same) (refl, rw (h, e) refl)
 
 -- ---- what may be there
 
 pub nothing_there : (t : Option ServiceType) (e : UserException) → is_some t ≡ false →
-    given (there t e) no_more ≡ Some (Raised e)
+    with_cause (there t e) no_more ≡ Some (Raised e)
 nothing_there None e h = refl
 nothing_there (Some t) e h = absurd cc
 
 pub something_there : (t : Option ServiceType) (e : UserException) → is_some t ≡ true →
-    given (there t e) no_more ≡ None
+    with_cause (there t e) no_more ≡ None
 something_there None e h = absurd cc
 something_there (Some t) e h = refl
 
 pub none_there : (t : Option ServiceType) (e : UserException) (cause : ServiceType → Cause) → t ≡ None →
-    given (there t e) cause ≡ Some (Raised e)
+    with_cause (there t e) cause ≡ Some (Raised e)
 none_there t e cause h = rw h refl
 
 pub some_there : (t : Option ServiceType) (u : ServiceType) (e : UserException) (cause : ServiceType → Cause) →
-    t ≡ Some u → given (there t e) cause ≡ cause u
+    t ≡ Some u → with_cause (there t e) cause ≡ cause u
 some_there t u e cause h = rw h refl
 
-pub is_unmasked : (t : Option ServiceType) (m : Bool) → mask_in t ≡ Some m → is_some (unmasked t) ≡ not m
+pub is_unmasked : (t : Option ServiceType) (m : Bool) → mask_in t ≡ Some m → is_some (if_unmasked t) ≡ not m
 is_unmasked None m h = absurd cc
 is_unmasked (Some t) m h = let same : t.masked ≡ m = cc in by_mask t.masked ∙ ap not same
   where
@@ -101,33 +101,33 @@ is_unmasked (Some t) m h = let same : t.masked ≡ m = cc in by_mask t.masked �
     by_mask true = refl
     by_mask false = refl
 
-pub is_nowhere : (t : Option ServiceType) → mask_in t ≡ None → is_some (unmasked t) ≡ false
+pub is_nowhere : (t : Option ServiceType) → mask_in t ≡ None → is_some (if_unmasked t) ≡ false
 is_nowhere None h = refl
 is_nowhere (Some t) h = absurd cc
 
 -- ---- a type that is open to a new offer is one that has the name
 
-pub absent : {X : Type 0} (found : Found X) (cause : X → Cause) (f : Refusal) → given found no_more ≡ Some f →
-    given found cause ≡ Some f
+pub absent : {X : Type 0} (found : OrRefusal X) (cause : X → Cause) (f : Refusal) → with_cause found no_more ≡ Some f →
+    with_cause found cause ≡ Some f
 absent (Ok x) cause f h = absurd cc
 absent (Err e) cause f h = h
 
 open_if : (masked : Bool) (t : ServiceType) (e : UserException) (cause : ServiceType → Cause) →
-    given (there (cond masked None (Some t)) e) no_more ≡ None →
-    given (there (cond masked None (Some t)) e) cause ≡ cause t
+    with_cause (there (cond masked None (Some t)) e) no_more ≡ None →
+    with_cause (there (cond masked None (Some t)) e) cause ≡ cause t
 open_if true t e cause h = absurd cc
 open_if false t e cause h = refl
 
 found_if : (named : Bool) (t : Option ServiceType) (e f : UserException) (cause : ServiceType → Cause) →
-    given (cond named (there (unmasked t) e) (raise f)) no_more ≡ None →
-    given (cond named (there (unmasked t) e) (raise f)) cause ≡ given (there t e) cause
+    with_cause (cond named (there (if_unmasked t) e) (raise f)) no_more ≡ None →
+    with_cause (cond named (there (if_unmasked t) e) (raise f)) cause ≡ with_cause (there t e) cause
 found_if false t e f cause h = absurd cc
 found_if true None e f cause h = absurd cc
 found_if true (Some t) e f cause h = open_if t.masked t e cause h
 
 pub opened : (types : List ServiceType) (name : List ℕ) (cause : ServiceType → Cause) →
-    given (open_type types name) no_more ≡ None →
-    given (open_type types name) cause ≡ given (there (type_named types name) (user.UnknownServiceType name)) cause
+    with_cause (open_type types name) no_more ≡ None →
+    with_cause (open_type types name) cause ≡ with_cause (there (type_named types name) (user.UnknownServiceType name)) cause
 opened types name cause h =
     found_if (word_name name) (type_named types name) (user.UnknownServiceType name) (user.IllegalServiceType name)
     cause h

@@ -16,10 +16,10 @@ abbrev pub system : SystemKind → Outcome
 system kind = System kind 0 1
 
 -- NO_IMPLEMENT where something isn't supported, IMP_LIMIT past a limit
-abbrev pub refused : Refusal → Outcome
-refused (Raised e) = User e
-refused NotSupported = system NoImplement
-refused Limit = system ImpLimit
+abbrev pub refusal_outcome : Refusal → Outcome
+refusal_outcome (Raised e) = User e
+refusal_outcome NotSupported = system NoImplement
+refusal_outcome Limit = system ImpLimit
 
 -- ---- causes
 
@@ -46,48 +46,48 @@ None otherwise later = later
 
 -- ---- what is looked for by a name or an id, and the refusal where it isn't there
 
-abbrev pub Found : Type 0 → Type 0
-Found X = Result X Refusal
+abbrev pub OrRefusal : Type 0 → Type 0
+OrRefusal X = Result X Refusal
 
-abbrev pub raise : {X : Type 0} → UserException → Found X
+abbrev pub raise : {X : Type 0} → UserException → OrRefusal X
 raise e = Err (Raised e)
 
 -- the thing that may be there, or else this exception
-abbrev pub there : {X : Type 0} → Option X → UserException → Found X
+abbrev pub there : {X : Type 0} → Option X → UserException → OrRefusal X
 there None e = raise e
 there (Some x) e = Ok x
 
 -- what else is at fault with what was found
-abbrev pub given : {X : Type 0} → Found X → (X → Cause) → Cause
-given (Ok x) cause = cause x
-given (Err f) cause = Some f
+abbrev pub with_cause : {X : Type 0} → OrRefusal X → (X → Cause) → Cause
+with_cause (Ok x) cause = cause x
+with_cause (Err f) cause = Some f
 
 -- what a look at it comes to
-abbrev pub tells : {X : Type 0} → Found X → (X → Reply) → Outcome
+abbrev pub tells : {X : Type 0} → OrRefusal X → (X → Reply) → Outcome
 tells (Ok x) reply = Done (reply x)
-tells (Err f) reply = refused f
+tells (Err f) reply = refusal_outcome f
 
 -- ---- changes
 
 -- the reply, and the store behind it; or the refusal
-abbrev pub Comes : Type 0
-Comes = Result (Reply × Store) Refusal
+abbrev pub ChangeResult : Type 0
+ChangeResult = Result (Reply × Store) Refusal
 
 -- refused for this cause, or accepted
-abbrev pub unless : Cause → Reply → Store → Comes
+abbrev pub unless : Cause → Reply → Store → ChangeResult
 unless None reply after = Ok (reply, after)
 unless (Some f) reply after = Err f
 
 -- the same; where no more changes are accepted, that is the last cause
-abbrev pub unless_full : (full : Bool) → Cause → Reply → Store → Comes
+abbrev pub unless_full : (full : Bool) → Cause → Reply → Store → ChangeResult
 unless_full full cause reply after = unless (cause otherwise limit_if full) reply after
 
 -- an outcome, and the store behind it
-pub record Applied : Type 0 where
+pub record Effect : Type 0 where
   pub outcome : Outcome
   pub store : Store
 
 -- a refusal of any kind leaves the store as it was
-abbrev pub applied : Store → Comes → Applied
-applied s (Ok accepted) = record { outcome = Done accepted.0; store = accepted.1 }
-applied s (Err f) = record { outcome = refused f; store = s }
+abbrev pub effect_of : Store → ChangeResult → Effect
+effect_of s (Ok accepted) = record { outcome = Done accepted.0; store = accepted.1 }
+effect_of s (Err f) = record { outcome = refusal_outcome f; store = s }

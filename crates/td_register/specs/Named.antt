@@ -9,26 +9,26 @@ use Rattle.td_types.specs.Repository.{type_named}
 use Rattle.td_types.specs.declared.entry.ServiceType.{ServiceType}
 use Rattle.td_store.specs.Candidates.{belongs}
 use Rattle.td_store.specs.declared.record.OfferRecord.{OfferRecord}
-use Rattle.td_register.specs.Causes.{Found, raise, there}
+use Rattle.td_register.specs.Causes.{OrRefusal, raise, there}
 
 -- the type of a name
-abbrev pub known : List ServiceType → List ℕ → Found ServiceType
-known types name =
+abbrev pub type_found : List ServiceType → List ℕ → OrRefusal ServiceType
+type_found types name =
     if word_name name then there (type_named types name) (UnknownServiceType name) else raise
     (IllegalServiceType name)
 
-abbrev pub unmasked : Option ServiceType → Option ServiceType
-unmasked None = None
-unmasked (Some t) = if t.masked then None else Some t
+abbrev pub if_unmasked : Option ServiceType → Option ServiceType
+if_unmasked None = None
+if_unmasked (Some t) = if t.masked then None else Some t
 
 -- the type of a name for a new offer: a masked type counts as unknown
-abbrev pub open_type : List ServiceType → List ℕ → Found ServiceType
+abbrev pub open_type : List ServiceType → List ℕ → OrRefusal ServiceType
 open_type types name =
-    if word_name name then there (unmasked (type_named types name)) (UnknownServiceType name)
+    if word_name name then there (if_unmasked (type_named types name)) (UnknownServiceType name)
     else raise (IllegalServiceType name)
 
 -- ---- the type of an offer
 
 -- what its type demands of its properties; of an offer that belongs to none nothing is demanded
-abbrev pub demanded : List ServiceType → OfferRecord → List PropStruct
-demanded types o = if belongs types o then full_properties types o.service_type else []
+abbrev pub type_properties : List ServiceType → OfferRecord → List PropStruct
+type_properties types o = if belongs types o then full_properties types o.service_type else []

@@ -7,14 +7,14 @@ use Rattle.std.specs.List.{list_any}
 use Rattle.std.specs.Str.{bytes_eq}
 use Rattle.td_cdr.specs.Names.{identifier}
 use Rattle.td_cdr.specs.declared.order.Order.TheVariants.{Big}
-use Rattle.td_codes.specs.Labels.{Held}
-use Rattle.td_codes.specs.Same.{same}
-use Rattle.td_codes.specs.Values.{code_in}
-use Rattle.td_codes.specs.declared.code.Any.{Any}
-use Rattle.td_codes.specs.declared.code.TypeCode.{TypeCode}
-use Rattle.td_codes.specs.declared.code.TypeCode.TheOpen as c
-use Rattle.td_codes.specs.declared.code.Value.{Value, out-Value}
-use Rattle.td_codes.specs.declared.reference.Ior.{Ior}
+use Rattle.td_typecode.specs.Labels.{ValueLayer}
+use Rattle.td_typecode.specs.Same.{same}
+use Rattle.td_typecode.specs.Values.{code_in}
+use Rattle.td_typecode.specs.declared.code.Any.{Any}
+use Rattle.td_typecode.specs.declared.code.TypeCode.{TypeCode}
+use Rattle.td_typecode.specs.declared.code.TypeCode.TheOpen as c
+use Rattle.td_typecode.specs.declared.code.Value.{Value, out-Value}
+use Rattle.td_typecode.specs.declared.reference.Ior.{Ior}
 use Rattle.td_exceptions.specs.declared.exception.UserException.TheVariants.{IllegalPropertyName, DuplicatePropertyName}
 use Rattle.td_exceptions.specs.declared.exception.UserException.TheVariants.{PropertyTypeMismatch}
 use Rattle.td_exceptions.specs.declared.exception.UserException.TheVariants.{ReadonlyDynamicProperty}
@@ -40,7 +40,7 @@ second_code [] = None
 second_code (v ∷ []) = None
 second_code (v ∷ w ∷ ws) = code_in (out-Value w)
 
-abbrev pub members_code : Held → Option TypeCode
+abbrev pub members_code : ValueLayer → Option TypeCode
 members_code (c.Value::Struct vs) = second_code vs
 members_code l = None
 
@@ -101,8 +101,9 @@ properties_cause supported type_name demanded before (p ∷ ps) =
     otherwise properties_cause supported type_name demanded (p.name ∷ before) ps
 
 -- the first mandatory property that an offer lacks
-abbrev pub missing : List PropStruct → List Property → Option PropStruct
-missing demanded properties = find (λ d. is_mandatory d.mode && not (carries properties d.name))
+abbrev pub missing_property : List PropStruct → List Property → Option PropStruct
+missing_property demanded properties = find (λ d. is_mandatory d.mode
+    && not (carries properties d.name))
     demanded
 
 abbrev pub missing_cause : (type_name : List ℕ) → Option PropStruct → Cause
@@ -112,10 +113,10 @@ missing_cause type_name (Some d) = raise_if true (MissingMandatoryProperty type_
 -- ---- limits
 
 -- the encoded bytes of an offer: of its reference and its properties
-abbrev pub encoded : Ior → List Property → ℕ
-encoded reference properties = length
+abbrev pub encoded_size : Ior → List Property → ℕ
+encoded_size reference properties = length
     (offer.format.writes (record { reference = reference; properties = properties }) Big 0)
 
 abbrev pub is_too_large : Ior → List Property → Bool
 is_too_large reference properties = nat_lt most_properties (length properties)
-    || nat_lt most_bytes (encoded reference properties)
+    || nat_lt most_bytes (encoded_size reference properties)

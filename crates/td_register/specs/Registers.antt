@@ -3,8 +3,8 @@ use Rattle.std.specs.Prelude.{ℕ, ◌+◌, nat_le, Bool, not, ◌&&◌, ◌||�
 use Rattle.std.specs.Prelude.{filter, find, Option, None, Some, Result, Ok, Err, unwrap_or}
 use Rattle.std.specs.List.{list_any}
 use Rattle.std.specs.Str.{bytes_eq}
-use Rattle.td_codes.specs.declared.reference.Ior.{Ior}
-use Rattle.td_eval.specs.Values.{matching}
+use Rattle.td_typecode.specs.declared.reference.Ior.{Ior}
+use Rattle.td_eval.specs.Values.{matches_constraint}
 use Rattle.td_exceptions.specs.declared.exception.UserException.TheVariants.{InvalidObjectRef, InterfaceTypeMismatch}
 use Rattle.td_exceptions.specs.declared.exception.UserException.TheVariants.{NotImplemented, UnknownPropertyName}
 use Rattle.td_exceptions.specs.declared.exception.UserException.TheVariants.{MandatoryProperty, ReadonlyProperty}
@@ -27,11 +27,11 @@ use Rattle.td_store.specs.Candidates.{belongs, is_dynamic}
 use Rattle.td_store.specs.OfferLists.{without_offer, with_properties, most_offers}
 use Rattle.td_store.specs.Stores.{offer_info_of}
 use Rattle.td_store.specs.declared.record.OfferRecord.{OfferRecord}
-use Rattle.td_register.specs.Causes.{Cause, Found, raise, raise_if, limit_if, ◌otherwise◌, given, tells}
+use Rattle.td_register.specs.Causes.{Cause, OrRefusal, raise, raise_if, limit_if, ◌otherwise◌, with_cause, tells}
 use Rattle.td_register.specs.Ids.{id_of, number_in, ordinary}
-use Rattle.td_register.specs.Named.{known, open_type, demanded}
+use Rattle.td_register.specs.Named.{type_found, open_type, type_properties}
 use Rattle.td_register.specs.Properties.{carries, mode_of, name_cause, value_cause, properties_cause}
-use Rattle.td_register.specs.Properties.{missing, missing_cause, is_too_large}
+use Rattle.td_register.specs.Properties.{missing_property, missing_cause, is_too_large}
 use Rattle.td_register.specs.Stores.{Store}
 
 -- ---- export
@@ -50,7 +50,7 @@ abbrev pub offer_cause : Store → (type_name : List ℕ) → List Property → 
 offer_cause s type_name properties =
     properties_cause s.attributes.supports_dynamic_properties type_name
     (full_properties s.types.types type_name) [] properties otherwise missing_cause type_name
-    (missing (full_properties s.types.types type_name) properties)
+    (missing_property (full_properties s.types.types type_name) properties)
 
 abbrev pub interface_cause : Store → (type_name : List ℕ) → Ior → ServiceType → Cause
 interface_cause s type_name reference t =
@@ -60,7 +60,7 @@ interface_cause s type_name reference t =
 abbrev pub export_cause : Store → Ior → (type_name : List ℕ) → List Property → Cause
 export_cause s reference type_name properties =
     raise_if (is_nil reference) (InvalidObjectRef reference)
-    otherwise given (open_type s.types.types type_name) (interface_cause s type_name reference)
+    otherwise with_cause (open_type s.types.types type_name) (interface_cause s type_name reference)
     otherwise offer_cause s type_name properties
     otherwise limit_if (passes_limit s reference properties)
 
@@ -72,8 +72,8 @@ incarnation_now s type_name = unwrap_or (incarnation_of s.types.types type_name)
 abbrev pub with_offer : Store → OfferRecord → Store
 with_offer s o = record s { offers = s.offers ++ o ∷ []; last_offer = o.number }
 
-abbrev pub exported : Store → Ior → (type_name : List ℕ) → List Property → OfferRecord
-exported s reference type_name properties = record {
+abbrev pub exported_offer : Store → Ior → (type_name : List ℕ) → List Property → OfferRecord
+exported_offer s reference type_name properties = record {
   number = s.last_offer + 1;
   reference = reference;
   service_type = type_name;
@@ -92,7 +92,7 @@ abbrev pub no_more : {X : Type 0} → X → Cause
 no_more found = None
 
 abbrev pub withdraw_cause : Store → List ℕ → Cause
-withdraw_cause s id = given (ordinary s.offers id) no_more
+withdraw_cause s id = with_cause (ordinary s.offers id) no_more
 
 abbrev pub offers_without : List OfferRecord → Option ℕ → List OfferRecord
 offers_without offers None = offers
@@ -110,64 +110,68 @@ describe s id = tells (ordinary s.offers id) (λ o. reply.Offer (offer_info_of o
 
 -- what is at fault with a name that is to be deleted
 abbrev pub deletion_cause : List PropStruct → OfferRecord → List ℕ → Cause
-deletion_cause demanded o name =
+deletion_cause type_properties o name =
     raise_if (not (carries o.properties name)) (UnknownPropertyName name)
-    otherwise raise_if (is_mandatory (mode_of demanded name))
-    (MandatoryProperty o.service_type name) otherwise raise_if (is_readonly (mode_of demanded name))
+    otherwise raise_if (is_mandatory (mode_of type_properties name))
+    (MandatoryProperty o.service_type name) otherwise raise_if
+    (is_readonly (mode_of type_properties name))
     (ReadonlyProperty o.service_type name)
 
 abbrev pub deletions_cause : List PropStruct → OfferRecord → (before : List (List ℕ))
     → List (List ℕ) → Cause
-deletions_cause demanded o before [] = None
-deletions_cause demanded o before (name ∷ names) =
+deletions_cause type_properties o before [] = None
+deletions_cause type_properties o before (name ∷ names) =
     name_cause before name
-    otherwise deletion_cause demanded o name
-    otherwise deletions_cause demanded o (name ∷ before) names
+    otherwise deletion_cause type_properties o name
+    otherwise deletions_cause type_properties o (name ∷ before) names
 
 -- A readonly property may be added where the offer lacks it, and not changed afterwards.
 abbrev pub readonly_cause : List PropStruct → OfferRecord → List ℕ → Cause
-readonly_cause demanded o name =
-    raise_if (is_readonly (mode_of demanded name) && carries o.properties name)
+readonly_cause type_properties o name =
+    raise_if (is_readonly (mode_of type_properties name) && carries o.properties name)
     (ReadonlyProperty o.service_type name)
 
 -- The names before are those that are to be deleted, too.
 abbrev pub changes_cause : (supported : Bool) → List PropStruct → OfferRecord
     → (before : List (List ℕ)) → List Property → Cause
-changes_cause supported demanded o before [] = None
-changes_cause supported demanded o before (p ∷ ps) =
+changes_cause supported type_properties o before [] = None
+changes_cause supported type_properties o before (p ∷ ps) =
     name_cause before p.name
-    otherwise value_cause supported o.service_type demanded p
-    otherwise readonly_cause demanded o p.name
-    otherwise changes_cause supported demanded o (p.name ∷ before) ps
+    otherwise value_cause supported o.service_type type_properties p
+    otherwise readonly_cause type_properties o p.name
+    otherwise changes_cause supported type_properties o (p.name ∷ before) ps
 
 -- the property that is given in place of this one
-abbrev pub renewed : List Property → Property → Property
-renewed changed p = unwrap_or (find (λ q. bytes_eq q.name p.name) changed) p
+abbrev pub replacement_of : List Property → Property → Property
+replacement_of changed p = unwrap_or (find (λ q. bytes_eq q.name p.name) changed) p
 
 -- Those that stay, with their new values in their places, and then those that the offer lacked.
-abbrev pub modified : List Property → (deleted : List (List ℕ)) → (changed : List Property)
+abbrev pub modified_properties : List Property → (deleted : List (List ℕ))
+    → (changed : List Property)
     → List Property
-modified properties deleted changed =
-    map (renewed changed) (filter (λ p. not (is_among p.name deleted)) properties)
+modified_properties properties deleted changed =
+    map (replacement_of changed) (filter (λ p. not (is_among p.name deleted)) properties)
     ++ filter (λ p. not (carries properties p.name)) changed
 
 abbrev pub offer_changes_cause : Store → List (List ℕ) → List Property → OfferRecord → Cause
 offer_changes_cause s deleted changed o =
-    deletions_cause (demanded s.types.types o) o [] deleted
-    otherwise changes_cause s.attributes.supports_dynamic_properties (demanded s.types.types o)
+    deletions_cause (type_properties s.types.types o) o [] deleted
+    otherwise changes_cause s.attributes.supports_dynamic_properties
+    (type_properties s.types.types o)
     o deleted changed otherwise limit_if
-    (is_too_large o.reference (modified o.properties deleted changed))
+    (is_too_large o.reference (modified_properties o.properties deleted changed))
 
 abbrev pub modify_cause : Store → List ℕ → List (List ℕ) → List Property → Cause
 modify_cause s id deleted changed =
     raise_if (not s.attributes.supports_modifiable_properties) NotImplemented
-    otherwise given (ordinary s.offers id) (offer_changes_cause s deleted changed)
+    otherwise with_cause (ordinary s.offers id) (offer_changes_cause s deleted changed)
 
-abbrev pub offers_modified : List OfferRecord → List (List ℕ) → List Property → Found OfferRecord
+abbrev pub offers_modified : List OfferRecord → List (List ℕ) → List Property
+    → OrRefusal OfferRecord
     → List OfferRecord
 offers_modified offers deleted changed (Err f) = offers
 offers_modified offers deleted changed (Ok o) = with_properties o.number
-    (modified o.properties deleted changed) offers
+    (modified_properties o.properties deleted changed) offers
 
 abbrev pub with_modified : Store → List ℕ → List (List ℕ) → List Property → Store
 with_modified s id deleted changed =
@@ -175,13 +179,13 @@ with_modified s id deleted changed =
 
 -- ---- withdraw_using_constraint
 
-abbrev pub asked : List ℕ → Result Constraint LangFault → Found Constraint
-asked text (Ok c) = Ok c
-asked text (Err f) = raise (IllegalConstraint text)
+abbrev pub constraint_found : List ℕ → Result Constraint LangFault → OrRefusal Constraint
+constraint_found text (Ok c) = Ok c
+constraint_found text (Err f) = raise (IllegalConstraint text)
 
 -- the constraint of a text
-abbrev pub asked_in : List ℕ → Found Constraint
-asked_in text = asked text (constraint_of text)
+abbrev pub asked_in : List ℕ → OrRefusal Constraint
+asked_in text = constraint_found text (constraint_of text)
 
 -- Dynamic properties count as absent.
 abbrev pub static_properties : List Property → List Property
@@ -191,7 +195,7 @@ static_properties properties = filter (λ p. not (is_dynamic p.value)) propertie
 abbrev pub is_met : List ServiceType → (type_name : List ℕ) → Constraint → OfferRecord → Bool
 is_met types type_name c o =
     not (is_some o.proxy) && belongs types o && conforms types o.service_type type_name
-    && matching (static_properties o.properties) c
+    && matches_constraint (static_properties o.properties) c
 
 abbrev pub none_met : Store → (type_name text : List ℕ) → Constraint → Cause
 none_met s type_name text c =
@@ -199,10 +203,10 @@ none_met s type_name text c =
 
 abbrev pub withdraw_met_cause : Store → (type_name text : List ℕ) → Cause
 withdraw_met_cause s type_name text =
-    given (known s.types.types type_name) no_more
-    otherwise given (asked_in text) (none_met s type_name text)
+    with_cause (type_found s.types.types type_name) no_more
+    otherwise with_cause (asked_in text) (none_met s type_name text)
 
-abbrev pub offers_not_met : Store → (type_name : List ℕ) → Found Constraint → List OfferRecord
+abbrev pub offers_not_met : Store → (type_name : List ℕ) → OrRefusal Constraint → List OfferRecord
 offers_not_met s type_name (Err f) = s.offers
 offers_not_met s type_name (Ok c) = filter (λ o. not (is_met s.types.types type_name c o)) s.offers
 

@@ -41,8 +41,8 @@ impl Drop for ChangeReply {
 
 impl Model for ChangeReply {
     ghost use Rattle.std.specs.Coded.{codes};
-    ghost use Rattle.td_codes.specs.contracts.code.TypeCode as code;
-    ghost use Rattle.td_codes.specs.contracts.code.Value as value;
+    ghost use Rattle.td_typecode.specs.contracts.code.TypeCode as code;
+    ghost use Rattle.td_typecode.specs.contracts.code.Value as value;
     ghost use Rattle.td_ops.specs.declared.outcome.Reply.{Reply};
     ghost use Rattle.td_register.specs.ChangeReplies.{reply_of};
 
@@ -121,7 +121,7 @@ impl ChangeReply {
     ///
     /// # Errors
     ///
-    /// `Memory` for want of memory alone.
+    /// `Memory` only when out of memory.
     pub fn reply(&self, alloc: Global) -> Result<Reply, Memory>
         ensures same { IfOk result (λ r. r ≡ self.now) }
         ensures of_change { answers_change self.now ≡ true }

@@ -16,7 +16,7 @@ const LAST_NUMBER: u64 = 4294967295;
 ///
 /// # Errors
 ///
-/// `Memory` for want of memory alone.
+/// `Memory` only when out of memory.
 pub fn id_of(alloc: Global, number: u32) -> Result<Text, Memory>
     ensures { IfOk result (λ id. id ≡ id_of number) }
 {

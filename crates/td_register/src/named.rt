@@ -4,9 +4,9 @@
 ghost use Rattle.std.specs.Prelude.{◌≡◌, is_some};
 ghost use Rattle.td_exceptions.specs.declared.exception.UserException.TheVariants as user;
 ghost use Rattle.td_types.specs.Repository.{type_named};
-ghost use Rattle.td_register.specs.Causes.{given, there};
-ghost use Rattle.td_register.specs.Judged.{Judges};
-ghost use Rattle.td_register.specs.Named.{demanded, open_type, unmasked};
+ghost use Rattle.td_register.specs.Causes.{with_cause, there};
+ghost use Rattle.td_register.specs.Judged.{IsFirstCause};
+ghost use Rattle.td_register.specs.Named.{type_properties, open_type, if_unmasked};
 ghost use Rattle.td_register.specs.Registers.{interface_cause, no_more};
 
 use crate::refusal::{Fault, illegal_type, raised, unknown_type};
@@ -20,7 +20,7 @@ use td_value::{Ior, PropStruct};
 /// Whether a type has the name and isn't masked.
 #[tactic(auto, using(crate::proofs::Otherwise::is_unmasked, crate::proofs::Otherwise::is_nowhere))]
 fn is_open(types: &Types, name: &[u8]) -> bool
-    ensures { result ≡ is_some (unmasked (type_named types.now.types name.now)) }
+    ensures { result ≡ is_some (if_unmasked (type_named types.now.types name.now)) }
 {
     match types.is_masked(name) {
         Some(masked) => !masked,
@@ -32,10 +32,10 @@ fn is_open(types: &Types, name: &[u8]) -> bool
 ///
 /// # Errors
 ///
-/// `IllegalServiceType`; `UnknownServiceType`, also of a masked type; `Memory` for want of memory.
+/// `IllegalServiceType`; `UnknownServiceType`, also of a masked type; `Memory` when out of memory.
 #[tactic(auto, using(crate::proofs::Otherwise::nothing_there, crate::proofs::Otherwise::something_there))]
 pub fn check_open(alloc: Global, types: &Types, name: &Text) -> Result<(), Fault>
-    ensures { Judges (given (open_type types.now.types name.now) no_more) result }
+    ensures { IsFirstCause (with_cause (open_type types.now.types name.now) no_more) result }
 {
     if !is_word_name(name.as_slice()) {
         return Err(illegal_type(name.copy(alloc)?));
@@ -50,7 +50,7 @@ pub fn check_open(alloc: Global, types: &Types, name: &Text) -> Result<(), Fault
 ///
 /// # Errors
 ///
-/// `UnknownServiceType`; `InterfaceTypeMismatch`; `Memory` for want of memory.
+/// `UnknownServiceType`; `InterfaceTypeMismatch`; `Memory` when out of memory.
 #[tactic(auto, using(crate::proofs::Otherwise::none_there, crate::proofs::Otherwise::some_there))]
 pub fn check_interface(
     alloc: Global,
@@ -58,7 +58,7 @@ pub fn check_interface(
     name: &Text,
     reference: &Ior,
 ) -> Result<(), Fault>
-    ensures { Judges (given (there (type_named store.now.types.types name.now)
+    ensures { IsFirstCause (with_cause (there (type_named store.now.types.types name.now)
         (user.UnknownServiceType name.now)) (interface_cause store.now name.now reference.now))
         result }
 {
@@ -79,8 +79,8 @@ pub fn check_interface(
 }
 
 /// What an offer's type demands of its properties; nothing where the offer belongs to none.
-pub fn demanded<'a>(types: &'a Types, offer: &OfferRecord) -> &'a [PropStruct]
-    ensures { result.now ≡ demanded types.now.types offer.now }
+pub fn type_properties<'a>(types: &'a Types, offer: &OfferRecord) -> &'a [PropStruct]
+    ensures { result.now ≡ type_properties types.now.types offer.now }
 {
     if belongs(types, offer) {
         types.full_properties(offer.service_type.as_slice())

@@ -3,8 +3,9 @@
 ghost use Rattle.std.specs.Prelude.{◌≡◌, List, ℕ, [], ◌∷◌, ◌++◌, IfOk, OnOk, option_copied};
 ghost use Rattle.td_cdr.specs.Seen.{HaveSeen};
 ghost use Rattle.td_register.specs.Causes.{limit_if};
-ghost use Rattle.td_register.specs.Judged.{Judges};
-ghost use Rattle.td_register.specs.Properties.{carries, is_too_large, mismatches, missing, missing_cause, name_cause};
+ghost use Rattle.td_register.specs.Judged.{IsFirstCause};
+ghost use Rattle.td_register.specs.Properties.{carries, is_too_large, mismatches, missing_property, missing_cause};
+ghost use Rattle.td_register.specs.Properties.{name_cause};
 ghost use Rattle.td_register.specs.Properties.{properties_cause, value_cause};
 
 use crate::refusal::{Fault, Refusal, raised};
@@ -31,7 +32,7 @@ pub fn carries(properties: &[Property], name: &[u8]) -> bool
 ///
 /// # Errors
 ///
-/// `Memory` for want of memory alone.
+/// `Memory` only when out of memory.
 pub fn push_copy(
     alloc: Global,
     properties: &mut List<Property>,
@@ -47,10 +48,10 @@ pub fn push_copy(
 ///
 /// # Errors
 ///
-/// `IllegalPropertyName`; `DuplicatePropertyName`; `Memory` for want of memory.
+/// `IllegalPropertyName`; `DuplicatePropertyName`; `Memory` when out of memory.
 pub fn check_name<'a>(alloc: Global, seen: &mut Seen<'a>, name: &'a Text) -> Result<(), Fault>
     ensures judged { (before : List (List ℕ)) → HaveSeen seen.old before
-        → Judges (name_cause before name.now) result }
+        → IsFirstCause (name_cause before name.now) result }
     ensures noted { (before : List (List ℕ)) → HaveSeen seen.old before →
         OnOk result (HaveSeen seen.new (name.now ∷ before)) }
 {
@@ -71,7 +72,7 @@ pub fn check_name<'a>(alloc: Global, seen: &mut Seen<'a>, name: &'a Text) -> Res
 ///
 /// # Errors
 ///
-/// `Memory` for want of memory alone.
+/// `Memory` only when out of memory.
 fn mismatches(
     alloc: Global,
     supported: bool,
@@ -91,7 +92,7 @@ fn mismatches(
 ///
 /// # Errors
 ///
-/// `PropertyTypeMismatch`; `ReadonlyDynamicProperty`; `Memory` for want of memory.
+/// `PropertyTypeMismatch`; `ReadonlyDynamicProperty`; `Memory` when out of memory.
 pub fn check_value(
     alloc: Global,
     supported: bool,
@@ -99,7 +100,7 @@ pub fn check_value(
     demanded: &[PropStruct],
     property: &Property,
 ) -> Result<(), Fault>
-    ensures { Judges (value_cause supported type_name.now demanded.now property.now) result }
+    ensures { IsFirstCause (value_cause supported type_name.now demanded.now property.now) result }
 {
     if mismatches(alloc, supported, demanded, property)? {
         let property = Boxed::copy_of(alloc, property)?;
@@ -122,8 +123,8 @@ pub fn check_value(
 ///
 /// # Errors
 ///
-/// Of the first property at fault, as [`check_name`] and then [`check_value`]; `Memory` for want of
-/// memory.
+/// Of the first property at fault, as [`check_name`] and then [`check_value`]; `Memory` when out
+/// of memory.
 pub fn check_properties(
     alloc: Global,
     supported: bool,
@@ -131,7 +132,7 @@ pub fn check_properties(
     demanded: &[PropStruct],
     properties: &[Property],
 ) -> Result<(), Fault>
-    ensures { Judges (properties_cause supported type_name.now demanded.now [] properties.now)
+    ensures { IsFirstCause (properties_cause supported type_name.now demanded.now [] properties.now)
         result }
 {
     let mut seen = nothing_seen(alloc);
@@ -143,8 +144,11 @@ pub fn check_properties(
 }
 
 /// The first mandatory property that is lacking.
-fn missing<'a>(demanded: &'a [PropStruct], properties: &[Property]) -> Option<&'a PropStruct>
-    ensures { option_copied result ≡ missing demanded.now properties.now }
+fn missing_property<'a>(
+    demanded: &'a [PropStruct],
+    properties: &[Property],
+) -> Option<&'a PropStruct>
+    ensures { option_copied result ≡ missing_property demanded.now properties.now }
 {
     for declared in demanded {
         if is_mandatory(declared.mode) && !carries(properties, declared.name.as_slice()) {
@@ -158,16 +162,17 @@ fn missing<'a>(demanded: &'a [PropStruct], properties: &[Property]) -> Option<&'
 ///
 /// # Errors
 ///
-/// `MissingMandatoryProperty` of the first that is missing; `Memory` for want of memory.
+/// `MissingMandatoryProperty` of the first that is missing; `Memory` when out of memory.
 pub fn check_missing(
     alloc: Global,
     type_name: &Text,
     demanded: &[PropStruct],
     properties: &[Property],
 ) -> Result<(), Fault>
-    ensures { Judges (missing_cause type_name.now (missing demanded.now properties.now)) result }
+    ensures { IsFirstCause
+        (missing_cause type_name.now (missing_property demanded.now properties.now)) result }
 {
-    match missing(demanded, properties) {
+    match missing_property(demanded, properties) {
         None => Ok(()),
         Some(declared) => {
             let (service_type, name) = copy_two(alloc, type_name, &declared.name)?;
@@ -180,9 +185,9 @@ pub fn check_missing(
 ///
 /// # Errors
 ///
-/// IMP_LIMIT for more than 256 properties or 1 MiB; `Memory` for want of memory.
+/// IMP_LIMIT for more than 256 properties or 1 MiB; `Memory` when out of memory.
 pub fn check_size(alloc: Global, reference: &Ior, properties: &List<Property>) -> Result<(), Fault>
-    ensures { Judges (limit_if (is_too_large reference.now properties.now)) result }
+    ensures { IsFirstCause (limit_if (is_too_large reference.now properties.now)) result }
 {
     if properties.len() > MOST_PROPERTIES {
         return Err(Fault::Refused(Refusal::Limit));

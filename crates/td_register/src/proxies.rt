@@ -5,7 +5,7 @@ ghost use Rattle.td_ops.specs.declared.call.Change.TheVariants as change;
 ghost use Rattle.td_ops.specs.declared.outcome.Reply.TheVariants as reply;
 ghost use Rattle.td_register.specs.Causes.{unless_full};
 ghost use Rattle.td_register.specs.Ids.{proxy};
-ghost use Rattle.td_register.specs.Judged.{Accepts, IsAbsent, Tells};
+ghost use Rattle.td_register.specs.Judged.{AcceptsChange, IsAbsent, IsOutcomeOrNoMemory};
 ghost use Rattle.td_register.specs.Needs.{NeedsNone};
 ghost use Rattle.td_register.specs.Proxies.{describe_proxy, proxy_info, proxy_info_of, withdraw_proxy_cause};
 ghost use Rattle.td_register.specs.Registers.{without_id};
@@ -13,7 +13,7 @@ ghost use Rattle.td_register.specs.Registers.{without_id};
 use crate::change_reply::ChangeReply;
 use crate::history::{Accepted, entry_of};
 use crate::ids::number_in;
-use crate::refusal::{Fault, Refusal, raised, refused};
+use crate::refusal::{Fault, Refusal, raised, refusal_outcome};
 use crate::register::is_proxy;
 use std::alloc::Global;
 use td_cdr::{Boxed, List, Memory, Text, Twin, copy_three, copy_two};
@@ -52,7 +52,7 @@ fn proxy<'a>(alloc: Global, offers: &'a Offers, id: &Text) -> Result<&'a OfferRe
 /// NO_IMPLEMENT where proxy offers aren't supported; `IllegalOfferId`, `UnknownOfferId`,
 /// `NotProxyOfferId`; IMP_LIMIT where no more changes are accepted.
 pub fn withdraw_proxy(store: &mut Store, full: bool, id: Text) -> Result<Accepted, Fault>
-    ensures accepts { Accepts (change.WithdrawProxy id)
+    ensures accepts { AcceptsChange (change.WithdrawProxy id)
         (unless_full full (withdraw_proxy_cause store.old id) reply.Nothing
         (without_id store.old id)) store.old store.new result }
     ensures free { NeedsNone result }
@@ -131,20 +131,20 @@ fn proxy_info(alloc: Global, offer: &OfferRecord) -> Result<ProxyInfo, Memory>
 ///
 /// # Errors
 ///
-/// `Memory` for want of memory alone.
+/// `Memory` only when out of memory.
 #[tactic(auto, unfolding(crate::specs::Proxies::describe_proxy))]
 pub fn describe_proxy(alloc: Global, store: &Store, id: &Text) -> Result<Outcome, Memory>
-    ensures { Tells (describe_proxy store.now id.now) result }
+    ensures { IsOutcomeOrNoMemory (describe_proxy store.now id.now) result }
 {
     if !store.attributes.supports_proxy_offers {
-        return Ok(refused(Refusal::NotSupported));
+        return Ok(refusal_outcome(Refusal::NotSupported));
     }
     match proxy(alloc, &store.offers, id) {
         Ok(offer) => {
             let info = Boxed::new(alloc, proxy_info(alloc, offer)?)?;
             Ok(Outcome::Done(Reply::Proxy(info)))
         }
-        Err(Fault::Refused(refusal)) => Ok(refused(refusal)),
+        Err(Fault::Refused(refusal)) => Ok(refusal_outcome(refusal)),
         Err(Fault::Memory) => Err(Memory),
     }
 }

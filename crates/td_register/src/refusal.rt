@@ -2,7 +2,7 @@
 
 ghost use Rattle.std.specs.Prelude.{◌≡◌, IfOk};
 ghost use Rattle.td_exceptions.specs.declared.exception.UserException.TheVariants as user;
-ghost use Rattle.td_register.specs.Causes.{refused};
+ghost use Rattle.td_register.specs.Causes.{refusal_outcome};
 ghost use Rattle.td_register.specs.declared.refusal.Fault.TheVariants as fault;
 ghost use Rattle.td_register.specs.declared.refusal.Refusal.TheVariants as refusal;
 
@@ -26,7 +26,7 @@ pub enum Refusal {
 #[derive(Drop)]
 pub enum Fault {
     Refused(Refusal),
-    /// Want of memory.
+    /// Out of memory.
     Memory,
 }
 
@@ -63,7 +63,7 @@ pub fn unknown_type(service_type: Text) -> Fault
 ///
 /// # Errors
 ///
-/// `Memory` for want of memory alone.
+/// `Memory` only when out of memory.
 pub fn invalid_lookup(alloc: Global, target: &Ior) -> Result<Fault, Memory>
     ensures { IfOk result (λ f. f
         ≡ fault.Refused (refusal.Raised (user.InvalidLookupRef target.now))) }
@@ -74,8 +74,8 @@ pub fn invalid_lookup(alloc: Global, target: &Ior) -> Result<Fault, Memory>
 }
 
 /// The outcome of a call that is refused.
-pub fn refused(refusal: Refusal) -> Outcome
-    ensures { result ≡ refused refusal }
+pub fn refusal_outcome(refusal: Refusal) -> Outcome
+    ensures { result ≡ refusal_outcome refusal }
 {
     match refusal {
         Refusal::Raised(exception) => Outcome::User(exception),

@@ -7,14 +7,14 @@ ghost use Rattle.td_store.specs.OfferLists.{offer_of};
 ghost use Rattle.td_store.specs.Stores.{offer_info_of};
 ghost use Rattle.td_register.specs.Causes.{unless_full};
 ghost use Rattle.td_register.specs.Ids.{ordinary};
-ghost use Rattle.td_register.specs.Judged.{Accepts, IsAbsent, Tells};
+ghost use Rattle.td_register.specs.Judged.{AcceptsChange, IsAbsent, IsOutcomeOrNoMemory};
 ghost use Rattle.td_register.specs.Needs.{NeedsNone};
 ghost use Rattle.td_register.specs.Registers.{describe, withdraw_cause, without_id};
 
 use crate::change_reply::ChangeReply;
 use crate::history::{Accepted, entry_of};
 use crate::ids::number_in;
-use crate::refusal::{Fault, Refusal, raised, refused};
+use crate::refusal::{Fault, Refusal, raised, refusal_outcome};
 use std::alloc::Global;
 use td_cdr::{Memory, Text, Twin, copy_three};
 use td_exceptions::UserException;
@@ -36,7 +36,7 @@ pub fn is_proxy(offers: &Offers, number: u32) -> Option<bool>
 ///
 /// # Errors
 ///
-/// `IllegalOfferId`; `UnknownOfferId`; `ProxyOfferId`; `Memory` for want of memory.
+/// `IllegalOfferId`; `UnknownOfferId`; `ProxyOfferId`; `Memory` when out of memory.
 pub fn ordinary<'a>(alloc: Global, offers: &'a Offers, id: &Text) -> Result<&'a OfferRecord, Fault>
     ensures { MatchResult result (λ o. ordinary offers.now id.now ≡ Ok o.now)
         (IsAbsent (ordinary offers.now id.now)) }
@@ -65,7 +65,8 @@ pub fn ordinary<'a>(alloc: Global, offers: &'a Offers, id: &Text) -> Result<&'a 
 ///
 /// `IllegalOfferId`, `UnknownOfferId`, `ProxyOfferId`; IMP_LIMIT where no more changes are accepted.
 pub fn withdraw(store: &mut Store, full: bool, id: Text) -> Result<Accepted, Fault>
-    ensures accepts { Accepts (change.Withdraw id) (unless_full full (withdraw_cause store.old id)
+    ensures accepts { AcceptsChange (change.Withdraw id)
+        (unless_full full (withdraw_cause store.old id)
         reply.Nothing (without_id store.old id)) store.old store.new result }
     ensures free { NeedsNone result }
 {
@@ -106,14 +107,14 @@ fn offer_info(alloc: Global, offer: &OfferRecord) -> Result<OfferInfo, Memory>
 ///
 /// # Errors
 ///
-/// `Memory` for want of memory alone.
+/// `Memory` only when out of memory.
 #[tactic(auto, unfolding(crate::specs::Registers::describe))]
 pub fn describe(alloc: Global, store: &Store, id: &Text) -> Result<Outcome, Memory>
-    ensures { Tells (describe store.now id.now) result }
+    ensures { IsOutcomeOrNoMemory (describe store.now id.now) result }
 {
     match ordinary(alloc, &store.offers, id) {
         Ok(offer) => Ok(Outcome::Done(Reply::Offer(offer_info(alloc, offer)?))),
-        Err(Fault::Refused(refusal)) => Ok(refused(refusal)),
+        Err(Fault::Refused(refusal)) => Ok(refusal_outcome(refusal)),
         Err(Fault::Memory) => Err(Memory),
     }
 }

@@ -2,8 +2,8 @@
 //! DynamicProp of module CosTradingDynamic).
 
 ghost use Rattle.std.specs.Prelude.{◌≡◌, IfOk, option_copied};
-ghost use Rattle.td_codes.specs.Values.{code_in};
-ghost use Rattle.td_codes.specs.declared.code.Value.{out-Value};
+ghost use Rattle.td_typecode.specs.Values.{code_in};
+ghost use Rattle.td_typecode.specs.declared.code.Value.{out-Value};
 ghost use Rattle.td_register.specs.Properties.{has_type, is_typed, mode_of, returned_type};
 ghost use Rattle.td_register.specs.Properties.{second_code};
 
@@ -47,7 +47,7 @@ fn returned_type(value: &Value) -> Option<&TypeCode>
 ///
 /// # Errors
 ///
-/// `Memory` for want of memory alone.
+/// `Memory` only when out of memory.
 fn has_type(alloc: Global, declared: &TypeCode, any: &Any) -> Result<bool, Memory>
     ensures { IfOk result (λ yes. yes ≡ has_type declared.now any.now) }
 {
@@ -64,7 +64,7 @@ fn has_type(alloc: Global, declared: &TypeCode, any: &Any) -> Result<bool, Memor
 ///
 /// # Errors
 ///
-/// `Memory` for want of memory alone.
+/// `Memory` only when out of memory.
 pub(crate) fn is_typed(
     alloc: Global,
     declared: Option<&PropStruct>,

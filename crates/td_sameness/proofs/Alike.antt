@@ -3,15 +3,15 @@ use Rattle.std.proofs.Common.{◌≡◌, ℕ, suc, ◌+◌, ◌<◌, ◌≤◌, 
 use Rattle.std.proofs.Common.{get_or, refl, sym, ap, ◌∙◌, arith}
 use Rattle.std.proofs.lemmas.List.{drop_more, drop_all, length-map}
 use Rattle.std.proofs.Math.Bool.{and-false}
-use Rattle.td_codes.specs.Same.{Entry, row, alike, entry_like}
+use Rattle.td_typecode.specs.Same.{Component, row, alike, entry_like}
 
-row-long : (ds es : List Entry) → (length ds ≡ length es → ⊥) → alike (row ds) (row es) ≡ false
+row-long : (ds es : List Component) → (length ds ≡ length es → ⊥) → alike (row ds) (row es) ≡ false
 row-long [] [] no_match = absurd (no_match refl)
 row-long [] (e ∷ es) no_match = refl
 row-long (d ∷ ds) [] no_match = refl
 row-long (d ∷ ds) (e ∷ es) no_match = rw (row-long ds es (λ e. no_match (ap suc e))) (and-false (entry_like d e))
 
-module _ {X : Type 0} (entry : X → Entry) where
+module _ {X : Type 0} (entry : X → Component) where
   abbrev pub here : List X → List X → Bool
   here a b = alike (row (map entry a)) (row (map entry b))
 

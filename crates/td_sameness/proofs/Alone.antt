@@ -3,13 +3,13 @@ use Rattle.std.proofs.Common.{◌≡◌, ℕ, true, not, ◌&&◌, nat_eq, ap, �
 use Rattle.std.proofs.lemmas.Bool.{and_parts, and_from}
 use Rattle.std.specs.Prelude.{Option, None, refl, List}
 use Rattle.tc_graph.specs.declared.node.Node.{Node}
-use Rattle.td_codes.specs.declared.code.TypeCode.{TypeCode, out-TypeCode}
-use Rattle.td_codes.specs.declared.code.TypeCode.TheVariants as code
-use Rattle.td_codes.specs.declared.code.TypeCode.TheOpen as c
-use Rattle.td_codes.specs.Kinds.{indirection}
-use Rattle.td_codes.specs.Labels.{Layer}
-use Rattle.td_codes.specs.Layers.{code-sequence}
-use Rattle.td_codes.specs.Same.{shape, shape_layer, graph_in, graph_of}
+use Rattle.td_typecode.specs.declared.code.TypeCode.{TypeCode, out-TypeCode}
+use Rattle.td_typecode.specs.declared.code.TypeCode.TheVariants as code
+use Rattle.td_typecode.specs.declared.code.TypeCode.TheOpen as c
+use Rattle.td_typecode.specs.Kinds.{indirection}
+use Rattle.td_typecode.specs.Labels.{Layer}
+use Rattle.td_typecode.specs.Layers.{code-sequence}
+use Rattle.td_typecode.specs.Same.{shape, shape_layer, graph_in, graph_of}
 use Rattle.td_sameness.specs.Graphs.{are_trees, is_tree, stands_alone, StandsAlone}
 use Rattle.td_sameness.proofs.PlainKinds.{layer_shapes, shape-at}
 

@@ -4,10 +4,10 @@ use Rattle.std.proofs.Common.{take, get_or, slice_index, refl, sym, ap, ◌∙�
 use Rattle.std.proofs.lemmas.List.{drop_more, drop_all, length-map, take_rest}
 use Rattle.std.proofs.Math.Bool.{and-false}
 use Rattle.tc_graph.specs.declared.node.Node.{Node}
-use Rattle.td_codes.specs.Same.{Shapes, Entry, row, alike_at, alike_along}
+use Rattle.td_typecode.specs.Same.{Shapes, Component, row, alike_at, alike_along}
 use Rattle.td_sameness.specs.Graphs.{LeadsWithin, others_alike}
 
-along-long : (g : List Node) (ds : List Entry) (es : List ℕ) → (length ds ≡ length es → ⊥)
+along-long : (g : List Node) (ds : List Component) (es : List ℕ) → (length ds ≡ length es → ⊥)
     → alike_along g (row ds) es ≡ false
 along-long g [] [] no_match = absurd (no_match refl)
 along-long g [] (e ∷ es) no_match = refl
@@ -26,7 +26,7 @@ others_along g x [] r some others = absurd (omega (arith, some))
 others_along g x (e ∷ es) r some others =
     others ∙ ap (λ (xs : List ℕ). alike_along g x xs) (take_rest (e ∷ es) 1)
 
-module _ {X : Type 0} (entry : X → Entry) (g : List Node) where
+module _ {X : Type 0} (entry : X → Component) (g : List Node) where
   abbrev pub along : List X → List ℕ → Bool
   along a es = alike_along g (row (map entry a)) es
 

@@ -6,25 +6,26 @@ use Rattle.std.specs.Cmp.Lexicographic.{pointwise}
 use Rattle.std.proofs.lemmas.List.{drop_more, drop_all, length-map}
 use Rattle.std.proofs.Math.Bool.{and-false}
 use Rattle.tc_graph.specs.declared.node.Node.{Node}
-use Rattle.td_codes.specs.declared.label.Label.{Label}
-use Rattle.td_codes.specs.declared.code.TypeCode.{TypeCode}
-use Rattle.td_codes.specs.declared.code.TypeCode.TheOpen as c
-use Rattle.td_codes.specs.declared.code.Value.{Value, fold-Value, fold_out-Value, map-Value, out-Value}
-use Rattle.td_codes.specs.declared.code.Any.{Any, fold-Any}
-use Rattle.td_codes.specs.declared.code.Arm.{Arm, fold-roll-Arm}
-use Rattle.td_codes.specs.declared.code.Member.{Member, fold-roll-Member}
-use Rattle.td_codes.specs.Labels.{Held, label_of, label_of_layer}
-use Rattle.td_codes.specs.Same.{Shape, Entry, row, shape, shape_layer, any_layer, arm_layer, member_layer, arm_entry}
-use Rattle.td_codes.specs.Same.{member_entry, label_number, labels_in, Shapes, count, heads_agree}
+use Rattle.td_typecode.specs.declared.label.Label.{Label}
+use Rattle.td_typecode.specs.declared.code.TypeCode.{TypeCode}
+use Rattle.td_typecode.specs.declared.code.TypeCode.TheOpen as c
+use Rattle.td_typecode.specs.declared.code.Value.{Value, fold-Value, fold_out-Value, map-Value, out-Value}
+use Rattle.td_typecode.specs.declared.code.Any.{Any, fold-Any}
+use Rattle.td_typecode.specs.declared.code.Arm.{Arm, fold-roll-Arm}
+use Rattle.td_typecode.specs.declared.code.Member.{Member, fold-roll-Member}
+use Rattle.td_typecode.specs.Labels.{ValueLayer, label_of, label_of_layer}
+use Rattle.td_typecode.specs.Same.{Shape, Component, row, shape, shape_layer, any_layer, arm_layer, member_layer}
+use Rattle.td_typecode.specs.Same.{arm_entry}
+use Rattle.td_typecode.specs.Same.{member_entry, label_number, labels_in, Shapes, count, heads_agree}
 use Rattle.td_sameness.specs.Graphs.{parts_agree}
 
 -- ---- how many there are
 
-count-row : (ds : List Entry) → count (row ds) ≡ length ds
+count-row : (ds : List Component) → count (row ds) ≡ length ds
 count-row [] = refl
 count-row (d ∷ ds) = ap suc (count-row ds)
 
-pub count-entries : {X : Type 0} (entry : X → Entry) (xs : List X) → count (row (map entry xs)) ≡ length xs
+pub count-entries : {X : Type 0} (entry : X → Component) (xs : List X) → count (row (map entry xs)) ≡ length xs
 count-entries entry xs = count-row (map entry xs) ∙ length-map xs entry
 
 -- ---- what counts of a node is looked at in order: its head, its names, its numbers
@@ -56,8 +57,8 @@ by-numbers k n i x p m r is head names numbers =
 
 member-label : (m : Member) → (member_entry m).label ≡ []
 member-label m =
-    ap (λ (e : Entry). e.label)
-    (fold-roll-Member Shape Label Label Entry Entry shape_layer label_of_layer any_layer arm_layer member_layer
+    ap (λ (e : Component). e.label)
+    (fold-roll-Member Shape Label Label Component Component shape_layer label_of_layer any_layer arm_layer member_layer
     (record { name = m.name; code = m.code }))
 
 pub members-unlabelled : (ms : List Member) → labels_in (row (map member_entry ms)) ≡ []
@@ -66,10 +67,10 @@ members-unlabelled (m ∷ ms) = rw (member-label m) (members-unlabelled ms)
 
 -- ---- an arm has one
 
-layer_label : (l : Held) → label_of_layer
-    (map-Value TypeCode Value Any Arm Member Shape Label Label Entry Entry shape
-    (fold-Value Shape Label Label Entry Entry shape_layer label_of_layer any_layer arm_layer member_layer)
-    (fold-Any Shape Label Label Entry Entry shape_layer label_of_layer any_layer arm_layer member_layer) arm_entry
+layer_label : (l : ValueLayer) → label_of_layer
+    (map-Value TypeCode Value Any Arm Member Shape Label Label Component Component shape
+    (fold-Value Shape Label Label Component Component shape_layer label_of_layer any_layer arm_layer member_layer)
+    (fold-Any Shape Label Label Component Component shape_layer label_of_layer any_layer arm_layer member_layer) arm_entry
     member_entry l)
     ≡ label_of_layer l
 layer_label c.Empty = refl
@@ -92,15 +93,15 @@ layer_label (c.Value::Enum n) = refl
 layer_label (c.Items vs) = refl
 
 folded-is : (v : Value)
-    → fold-Value Shape Label Label Entry Entry shape_layer label_of_layer any_layer arm_layer member_layer v ≡ label_of v
+    → fold-Value Shape Label Label Component Component shape_layer label_of_layer any_layer arm_layer member_layer v ≡ label_of v
 folded-is v =
-    fold_out-Value Shape Label Label Entry Entry shape_layer label_of_layer any_layer arm_layer member_layer v
+    fold_out-Value Shape Label Label Component Component shape_layer label_of_layer any_layer arm_layer member_layer v
     ∙ layer_label (out-Value v)
 
 arm-label : (a : Arm) → (arm_entry a).label ≡ label_of a.label ∷ []
 arm-label a =
-    ap (λ (e : Entry). e.label)
-    (fold-roll-Arm Shape Label Label Entry Entry shape_layer label_of_layer any_layer arm_layer member_layer
+    ap (λ (e : Component). e.label)
+    (fold-roll-Arm Shape Label Label Component Component shape_layer label_of_layer any_layer arm_layer member_layer
     (record { label = a.label; name = a.name; code = a.code }))
     ∙ ap (λ (l : Label). l ∷ []) (folded-is a.label)
 

@@ -9,10 +9,10 @@ use Rattle.tc_graph.specs.declared.node.Node.{Node}
 use Rattle.tc_graph.specs.Nodes.{node_at, edge}
 use Rattle.tc_graph.specs.Aliases.{bare}
 use Rattle.tc_graph.specs.Sameness.{Matches, matches}
-use Rattle.td_codes.specs.declared.label.Label.{Label}
-use Rattle.td_codes.specs.Kinds.{indirection}
-use Rattle.td_codes.specs.Same.{Shapes, empty, node, Shape, count, kinds_agree, ids_agree, heads_agree, node_agrees}
-use Rattle.td_codes.specs.Same.{node_numbers, name_count, alike_along, alike_at}
+use Rattle.td_typecode.specs.declared.label.Label.{Label}
+use Rattle.td_typecode.specs.Kinds.{indirection}
+use Rattle.td_typecode.specs.Same.{Shapes, empty, node, Shape, count, kinds_agree, ids_agree, heads_agree, node_agrees}
+use Rattle.td_typecode.specs.Same.{node_numbers, name_count, alike_along, alike_at}
 use Rattle.td_sameness.specs.Depths.{as_node, shape_at, AlikeAt}
 use Rattle.td_sameness.proofs.Matching.{matches-Decides}
 

@@ -4,38 +4,40 @@ use Rattle.std.specs.Cmp.Lexicographic.{pointwise}
 use Rattle.std.specs.Ordering.{int_eq}
 use Rattle.std.proofs.Math.Bool.{and-false}
 use Rattle.tc_graph.specs.declared.node.Node.{Node}
-use Rattle.td_codes.specs.declared.label.Label.{Label}
-use Rattle.td_codes.specs.declared.code.TypeCode.{TypeCode, TypeCode-F, fold_out-TypeCode, map-TypeCode, out-TypeCode}
-use Rattle.td_codes.specs.declared.code.TypeCode.{roll-TypeCode, roll-out-TypeCode}
-use Rattle.td_codes.specs.declared.code.TypeCode.TheVariants as code
-use Rattle.td_codes.specs.declared.code.TypeCode.TheOpen as c
-use Rattle.td_codes.specs.declared.code.Value.{Value, fold-Value}
-use Rattle.td_codes.specs.declared.code.Any.{Any, fold-Any}
-use Rattle.td_codes.specs.declared.code.Arm.{Arm}
-use Rattle.td_codes.specs.declared.code.Member.{Member}
-use Rattle.td_codes.specs.declared.kinds.CodeKind.{CodeKind}
-use Rattle.td_codes.specs.declared.kinds.CodeKind.TheVariants as kind
-use Rattle.td_codes.specs.Kinds.{number_of, indirection}
-use Rattle.td_codes.specs.Labels.{Layer, label_of_layer}
-use Rattle.td_codes.specs.Layers.{code-linked}
-use Rattle.td_codes.specs.Codes.{kind_of}
-use Rattle.td_codes.specs.WritingCodes.{kind_of_layer}
-use Rattle.td_codes.specs.Same.{Shape, Entry, empty, alike, like, kinds_agree, ids_agree, shape, shape_layer, kind_shape}
-use Rattle.td_codes.specs.Same.{graph_shape, any_layer, arm_layer, member_layer, arm_entry, member_entry, is_alias}
-use Rattle.td_codes.specs.Same.{alike_node}
-use Rattle.td_codes.proofs.OfPlainKind.{is_plain}
+use Rattle.td_typecode.specs.declared.label.Label.{Label}
+use Rattle.td_typecode.specs.declared.code.TypeCode.{TypeCode, TypeCode-F, fold_out-TypeCode, map-TypeCode}
+use Rattle.td_typecode.specs.declared.code.TypeCode.{out-TypeCode}
+use Rattle.td_typecode.specs.declared.code.TypeCode.{roll-TypeCode, roll-out-TypeCode}
+use Rattle.td_typecode.specs.declared.code.TypeCode.TheVariants as code
+use Rattle.td_typecode.specs.declared.code.TypeCode.TheOpen as c
+use Rattle.td_typecode.specs.declared.code.Value.{Value, fold-Value}
+use Rattle.td_typecode.specs.declared.code.Any.{Any, fold-Any}
+use Rattle.td_typecode.specs.declared.code.Arm.{Arm}
+use Rattle.td_typecode.specs.declared.code.Member.{Member}
+use Rattle.td_typecode.specs.declared.kinds.CodeKind.{CodeKind}
+use Rattle.td_typecode.specs.declared.kinds.CodeKind.TheVariants as kind
+use Rattle.td_typecode.specs.Kinds.{number_of, indirection}
+use Rattle.td_typecode.specs.Labels.{Layer, label_of_layer}
+use Rattle.td_typecode.specs.Layers.{code-linked}
+use Rattle.td_typecode.specs.Codes.{kind_of}
+use Rattle.td_typecode.specs.WritingCodes.{kind_of_layer}
+use Rattle.td_typecode.specs.Same.{Shape, Component, empty, alike, like, kinds_agree, ids_agree, shape, shape_layer}
+use Rattle.td_typecode.specs.Same.{kind_shape}
+use Rattle.td_typecode.specs.Same.{graph_shape, any_layer, arm_layer, member_layer, arm_entry, member_entry, is_alias}
+use Rattle.td_typecode.specs.Same.{alike_node}
+use Rattle.td_typecode.proofs.OfPlainKind.{is_plain}
 use Rattle.td_sameness.specs.Graphs.{bare_agrees}
 
-abbrev pub layer_shapes : Layer → TypeCode-F Shape Label Label Entry Entry
+abbrev pub layer_shapes : Layer → TypeCode-F Shape Label Label Component Component
 layer_shapes =
-    map-TypeCode TypeCode Value Any Arm Member Shape Label Label Entry Entry shape
-    (fold-Value Shape Label Label Entry Entry shape_layer label_of_layer any_layer arm_layer member_layer)
-    (fold-Any Shape Label Label Entry Entry shape_layer label_of_layer any_layer arm_layer member_layer) arm_entry
+    map-TypeCode TypeCode Value Any Arm Member Shape Label Label Component Component shape
+    (fold-Value Shape Label Label Component Component shape_layer label_of_layer any_layer arm_layer member_layer)
+    (fold-Any Shape Label Label Component Component shape_layer label_of_layer any_layer arm_layer member_layer) arm_entry
     member_entry
 
 pub shape-at : (t : TypeCode) (l : Layer) → out-TypeCode t ≡ l → shape t ≡ shape_layer (layer_shapes l)
 shape-at t l is =
-    fold_out-TypeCode Shape Label Label Entry Entry shape_layer label_of_layer any_layer arm_layer member_layer t
+    fold_out-TypeCode Shape Label Label Component Component shape_layer label_of_layer any_layer arm_layer member_layer t
     ∙ ap (λ (x : Layer). shape_layer (layer_shapes x)) is
 
 and-true : (b : Bool) → b ≡ (b && true)

@@ -10,13 +10,14 @@ use Rattle.tc_graph.proofs.Symmetry.{alike-itself, alike-turned}
 use Rattle.std.specs.Cmp.Lexicographic.{pointwise}
 use Rattle.std.specs.Ordering.{int_eq}
 use Rattle.std.proofs.lemmas.Cmp.{nat_eq_equiv, int_eq_equiv, nat_list_eq_equiv, lists_equiv}
-use Rattle.td_codes.specs.declared.label.Label.{Label}
-use Rattle.td_codes.specs.declared.label.Label.TheVariants.{One, Two, Four, Eight}
-use Rattle.td_codes.specs.declared.code.TypeCode.{TypeCode}
-use Rattle.td_codes.specs.Labels.{same_label}
-use Rattle.td_codes.specs.Kinds.{indirection}
-use Rattle.td_codes.specs.Same.{Shapes, empty, node, Shape, alike, like, kinds_agree, ids_agree, shape, same_by, graph_of}
-use Rattle.td_codes.specs.Same.{Same}
+use Rattle.td_typecode.specs.declared.label.Label.{Label}
+use Rattle.td_typecode.specs.declared.label.Label.TheVariants.{One, Two, Four, Eight}
+use Rattle.td_typecode.specs.declared.code.TypeCode.{TypeCode}
+use Rattle.td_typecode.specs.Labels.{same_label}
+use Rattle.td_typecode.specs.Kinds.{indirection}
+use Rattle.td_typecode.specs.Same.{Shapes, empty, node, Shape, alike, like, kinds_agree, ids_agree, shape, same_by}
+use Rattle.td_typecode.specs.Same.{graph_of}
+use Rattle.td_typecode.specs.Same.{Same}
 use Rattle.td_sameness.specs.Graphs.{are_trees, is_tree, stands_alone, StandsAlone}
 
 label-refl : (a : Label) → same_label a a ≡ true

@@ -1,12 +1,12 @@
--- When nothing tells a TypeCode that is no graph and a place of a graph apart down to a depth: as two places of graphs are
--- alike (tc_graph, Sameness), with a TypeCode in place of one of them.
+-- When nothing tells a TypeCode that is no graph and a place of a graph apart down to a depth: as two places of graphs
+-- are alike (tc_graph, Sameness), with a TypeCode in place of one of them.
 use Rattle.std.specs.Prelude.{◌≡◌, ℕ, zero, suc, ◌<◌, ◌↔◌, IsTrue, List, [], replicate}
 use Rattle.tc_graph.specs.declared.node.Node.{Node}
 use Rattle.tc_graph.specs.Nodes.{node_at, edge}
 use Rattle.tc_graph.specs.Aliases.{bare}
 use Rattle.tc_graph.specs.Sameness.{Matches}
-use Rattle.td_codes.specs.Kinds.{indirection}
-use Rattle.td_codes.specs.Same.{Shapes, empty, node, Shape, graph_shape, count, node_numbers, name_count, alike_at}
+use Rattle.td_typecode.specs.Kinds.{indirection}
+use Rattle.td_typecode.specs.Same.{Shapes, empty, node, Shape, graph_shape, count, node_numbers, name_count, alike_at}
 
 -- one as the node of a graph that it would be; where its edges lead doesn't count, nor which names it has
 abbrev pub as_node : Shape → Node

@@ -1,12 +1,13 @@
 -- Worked examples: TypeCodes that are no graphs against graphs.
 use Rattle.std.specs.Prelude.{◌≡◌, ℕ, pos, negsuc, true, false, List, [], ◌∷◌, codes}
 use Rattle.tc_graph.specs.declared.node.Node.{Node}
-use Rattle.tc_graph.specs.Examples.{n_id, rolled, alias_of}
-use Rattle.td_codes.specs.declared.kinds.CodeKind.TheVariants as kind
-use Rattle.td_codes.specs.declared.label.Label.{Label}
-use Rattle.td_codes.specs.declared.label.Label.TheVariants.{Four}
-use Rattle.td_codes.specs.Same.{Shape, Entry, like, alike_at, kind_shape, str_shape, fields_shape, union_shape, enum_shape}
-use Rattle.td_codes.specs.Same.{items_shape, graph_shape, entry_without_label}
+use Rattle.tc_graph.specs.Examples.{n_id, recursive_graph, alias_of}
+use Rattle.td_typecode.specs.declared.kinds.CodeKind.TheVariants as kind
+use Rattle.td_typecode.specs.declared.label.Label.{Label}
+use Rattle.td_typecode.specs.declared.label.Label.TheVariants.{Four}
+use Rattle.td_typecode.specs.Same.{Shape, Component, like, alike_at, kind_shape, str_shape, fields_shape, union_shape}
+use Rattle.td_typecode.specs.Same.{enum_shape}
+use Rattle.td_typecode.specs.Same.{items_shape, graph_shape, entry_without_label}
 
 -- ---- a structure of two members of one structure, which has a long
 
@@ -35,8 +36,8 @@ outer_node place = record {
   edges = place ∷ place ∷ [];
 }
 
-abbrev pub shared : List Node
-shared = outer_node 1 ∷ inner_node 2 ∷ long_node ∷ []
+abbrev pub shared_graph : List Node
+shared_graph = outer_node 1 ∷ inner_node 2 ∷ long_node ∷ []
 
 -- the same with an alias in front of each
 abbrev pub behind_aliases : List Node
@@ -67,7 +68,7 @@ union_graph first second =
     union_node first second ∷ long_node
     ∷ record { kind = 18; id = []; names = []; numbers = pos 7 ∷ []; edges = [] } ∷ []
 
-abbrev pub arm_at : Label → Shape → Entry
+abbrev pub arm_at : Label → Shape → Component
 arm_at label code = record { label = label ∷ []; shape = code }
 
 abbrev pub union_code : (bound : ℕ) → Shape
@@ -89,21 +90,22 @@ enum_graph =
 
 pub record WorkedSameness : Type 0 where
   -- how often it is unrolled doesn't count
-  pub unrolled : alike_at shared (outer_code (inner_code p_id long_code)
+  pub unrolled : alike_at shared_graph (outer_code (inner_code p_id long_code)
       (inner_code p_id long_code)) 0 ≡ true
   pub aliases : alike_at behind_aliases (outer_code (inner_code p_id long_code)
       (inner_code p_id long_code)) 0 ≡ true
-  pub no_id : alike_at shared (outer_code (inner_code p_id long_code) (inner_code [] long_code)) 0
+  pub no_id : alike_at shared_graph (outer_code (inner_code p_id long_code)
+      (inner_code [] long_code)) 0
       ≡ true
-  pub other_id : alike_at shared (outer_code (inner_code p_id long_code)
+  pub other_id : alike_at shared_graph (outer_code (inner_code p_id long_code)
       (inner_code n_id long_code)) 0 ≡ false
   pub other_member :
-      alike_at shared (outer_code (inner_code p_id long_code)
+      alike_at shared_graph (outer_code (inner_code p_id long_code)
       (inner_code p_id (kind_shape kind.Short))) 0 ≡ false
-  pub fewer : alike_at shared (inner_code [] (inner_code p_id long_code)) 0 ≡ false
+  pub fewer : alike_at shared_graph (inner_code [] (inner_code p_id long_code)) 0 ≡ false
   -- a type that holds itself is the same as none that comes to an end
   pub endless :
-      alike_at rolled (inner_code n_id
+      alike_at recursive_graph (inner_code n_id
       (items_shape kind.Sequence (inner_code n_id (kind_shape kind.Long)) 0)) 0
       ≡ false
   pub labels : alike_at (union_graph 1 2) (union_code 7) 0 ≡ true

@@ -4,10 +4,10 @@ use Rattle.std.specs.Prelude.{Option, Some, None, is_some}
 use Rattle.std.specs.Ordering.{int_eq}
 use Rattle.std.specs.Cmp.Lexicographic.{pointwise}
 use Rattle.tc_graph.specs.declared.node.Node.{Node}
-use Rattle.td_codes.specs.declared.code.TypeCode.{TypeCode}
-use Rattle.td_codes.specs.Kinds.{indirection}
-use Rattle.td_codes.specs.Same.{Shapes, empty, node, Shape, shape, graph_of, count, labels_in, heads_agree, alike_at}
-use Rattle.td_codes.specs.Same.{alike_along}
+use Rattle.td_typecode.specs.declared.code.TypeCode.{TypeCode}
+use Rattle.td_typecode.specs.Kinds.{indirection}
+use Rattle.td_typecode.specs.Same.{Shapes, empty, node, Shape, shape, graph_of, count, labels_in, heads_agree, alike_at}
+use Rattle.td_typecode.specs.Same.{alike_along}
 
 abbrev pub IsGraph : TypeCode → Type 0
 IsGraph t = is_some (graph_of t) ≡ true

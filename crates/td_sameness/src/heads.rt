@@ -3,15 +3,15 @@
 ghost use Rattle.std.specs.Prelude.{◌≡◌, suc, ℤ, pos, map, [], ◌∷◌, length, nat_eq};
 ghost use Rattle.std.specs.Ordering.{int_eq};
 ghost use Rattle.std.specs.Cmp.Lexicographic.{pointwise};
-ghost use Rattle.td_codes.specs.Kinds.{number_of};
-ghost use Rattle.td_codes.specs.Labels.{label_of};
-ghost use Rattle.td_codes.specs.Same.{heads_agree, ids_agree, label_number, labels_in, row, arm_entry};
-ghost use Rattle.td_codes.specs.Same.{alike_along, empty, member_entry};
-ghost use Rattle.td_codes.specs.declared.kinds.CodeKind.TheVariants as kind;
+ghost use Rattle.td_typecode.specs.Kinds.{number_of};
+ghost use Rattle.td_typecode.specs.Labels.{label_of};
+ghost use Rattle.td_typecode.specs.Same.{heads_agree, ids_agree, label_number, labels_in, row, arm_entry};
+ghost use Rattle.td_typecode.specs.Same.{alike_along, empty, member_entry};
+ghost use Rattle.td_typecode.specs.declared.kinds.CodeKind.TheVariants as kind;
 ghost use Rattle.td_sameness.specs.Graphs.{parts_agree};
 
 use tc_graph::{Node, Whole};
-use td_codes::{Arm, CodeKind, Label, Member, label_of};
+use td_typecode::{Arm, CodeKind, Label, Member, label_of};
 
 /// Whether a node has this kind, and an id that agrees.
 pub(crate) fn is_headed(node: &Node, kind: CodeKind, id: &[u8]) -> bool

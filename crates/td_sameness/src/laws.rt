@@ -1,7 +1,7 @@
 //! What holds of being the same, as functions that do nothing: each one's contract is the law.
 
-ghost use Rattle.td_codes.specs.declared.code.TypeCode.{TypeCode};
-ghost use Rattle.td_codes.specs.Same.{Same};
+ghost use Rattle.td_typecode.specs.declared.code.TypeCode.{TypeCode};
+ghost use Rattle.td_typecode.specs.Same.{Same};
 ghost use Rattle.td_sameness.specs.Graphs.{StandsAlone};
 ghost use Rattle.td_sameness.specs.Depths.{AtEveryDepth};
 ghost use Rattle.td_sameness.specs.Examples.{WorkedSameness};

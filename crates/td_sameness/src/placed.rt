@@ -2,10 +2,11 @@
 //! memory nor a list of what was compared, since a TypeCode that is no graph comes to an end.
 
 ghost use Rattle.std.specs.Prelude.{◌≡◌, ◌<◌, map, [], ◌∷◌, length};
-ghost use Rattle.td_codes.specs.declared.kinds.CodeKind.TheVariants as kind;
-ghost use Rattle.td_codes.specs.Kinds.{number_of};
-ghost use Rattle.td_codes.specs.Same.{alike_at, alike_node, alike_along, shape, row, member_entry, arm_entry};
-ghost use Rattle.td_codes.specs.Same.{entry_without_label, str_shape, object_shape, fields_shape, enum_shape, items_shape};
+ghost use Rattle.td_typecode.specs.declared.kinds.CodeKind.TheVariants as kind;
+ghost use Rattle.td_typecode.specs.Kinds.{number_of};
+ghost use Rattle.td_typecode.specs.Same.{alike_at, alike_node, alike_along, shape, row, member_entry, arm_entry};
+ghost use Rattle.td_typecode.specs.Same.{entry_without_label, str_shape, object_shape, fields_shape, enum_shape};
+ghost use Rattle.td_typecode.specs.Same.{items_shape};
 ghost use Rattle.tc_graph.specs.Nodes.{node_at};
 ghost use Rattle.tc_graph.specs.Aliases.{bare};
 ghost use Rattle.td_sameness.specs.Graphs.{LeadsWithin, bare_agrees, first_alike, others_alike};
@@ -15,7 +16,7 @@ use crate::heads::{
 };
 use tc_graph::{Node, Whole};
 use td_cdr::{Boxed, Text};
-use td_codes::{Arm, CodeKind, Member, TypeCode, kind_of};
+use td_typecode::{Arm, CodeKind, Member, TypeCode, kind_of};
 
 /// Whether the TypeCode is the same as what stands at the place, at every depth. A graph is none.
 #[cycle(placed)]

@@ -1,7 +1,7 @@
 //! Whether two TypeCodes are the same, either of which may be a graph.
 
 ghost use Rattle.std.specs.Prelude.{◌≡◌, None, option_map, IfOk, OnErr};
-ghost use Rattle.td_codes.specs.Same.{same, graph_of, shape, alike_at};
+ghost use Rattle.td_typecode.specs.Same.{same, graph_of, shape, alike_at};
 ghost use Rattle.td_sameness.specs.Graphs.{IsGraph};
 
 use crate::placed::same_at;
@@ -9,7 +9,7 @@ use crate::trees::same_trees;
 use std::alloc::Global;
 use tc_graph::Whole;
 use td_cdr::Memory;
-use td_codes::TypeCode;
+use td_typecode::TypeCode;
 
 /// Whether the TypeCodes are the same without their aliases, names not counted, and ids only where
 /// neither is empty. Graphs are compared at every depth, and it doesn't count how often they are unrolled.
@@ -17,7 +17,7 @@ use td_codes::TypeCode;
 ///
 /// # Errors
 ///
-/// `Memory` for want of memory, and only where both are graphs.
+/// `Memory` when out of memory, and only where both are graphs.
 pub fn same_type(alloc: Global, a: &TypeCode, b: &TypeCode) -> Result<bool, Memory>
     ensures value { IfOk result (λ yes. yes ≡ same a.now b.now) }
     ensures first { OnErr result (IsGraph a.now) }

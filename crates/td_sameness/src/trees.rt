@@ -1,15 +1,15 @@
 //! Whether two TypeCodes are the same type, neither of which is a graph.
 
 ghost use Rattle.std.specs.Prelude.{◌≡◌, ℤ, map, Bool, false, length, ◌&&◌};
-ghost use Rattle.td_codes.specs.declared.code.TypeCode.{out-TypeCode};
-ghost use Rattle.td_codes.specs.declared.kinds.CodeKind.TheVariants as kind;
-ghost use Rattle.td_codes.specs.Same.{like, alike, entry_like, shape, row, member_entry, arm_entry, ids_agree};
-ghost use Rattle.td_codes.specs.Same.{is_alias, str_shape, object_shape, fields_shape, enum_shape};
-ghost use Rattle.td_codes.specs.Same.{items_shape};
+ghost use Rattle.td_typecode.specs.declared.code.TypeCode.{out-TypeCode};
+ghost use Rattle.td_typecode.specs.declared.kinds.CodeKind.TheVariants as kind;
+ghost use Rattle.td_typecode.specs.Same.{like, alike, entry_like, shape, row, member_entry, arm_entry, ids_agree};
+ghost use Rattle.td_typecode.specs.Same.{is_alias, str_shape, object_shape, fields_shape, enum_shape};
+ghost use Rattle.td_typecode.specs.Same.{items_shape};
 
 use crate::heads::ids_agree;
 use td_cdr::{Boxed, Text};
-use td_codes::{Arm, INDIRECTION, Member, TypeCode, bare, kind_of, label_of, same_label};
+use td_typecode::{Arm, INDIRECTION, Member, TypeCode, bare, kind_of, label_of, same_label};
 
 /// Whether the TypeCodes are the same without their aliases, names not counted, and ids only where
 /// neither is empty. A graph in them is the same as nothing.

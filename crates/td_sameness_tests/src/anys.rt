@@ -1,8 +1,8 @@
-//! Anys under TypeCodes with indirections: bytes of a reference that shares no code with td_codes.
+//! Anys under TypeCodes with indirections: bytes of a reference that shares no code with td_typecode.
 
 use std::alloc::Global;
 use td_cdr::{Boxed, CdrFault, Order, Reader, ValueFault, Writer};
-use td_codes::{Any, read_any, write_any};
+use td_typecode::{Any, read_any, write_any};
 
 /// What an any is, and its bytes in big and in little order.
 const SPELLED: &str =
@@ -95,8 +95,8 @@ fn are_written(alloc: Global, order: Order, digits: &str, both: &str) -> Option<
 }
 
 /// The fault that a line tells.
-fn fault_of(told: &str) -> Option<ValueFault> {
-    let (name, place) = told.split_once(' ')?;
+fn fault_of(content: &str) -> Option<ValueFault> {
+    let (name, place) = content.split_once(' ')?;
     let place = place.parse::<u32>().ok()?;
     match name {
         "Short" => Some(ValueFault::Cdr(CdrFault::Short(place))),
@@ -111,13 +111,13 @@ fn fault_of(told: &str) -> Option<ValueFault> {
 fn is_refused(alloc: Global, line: &str) -> Option<bool> {
     let (_name, rest) = line.split_once('|')?;
     let (mark, rest) = rest.split_once('|')?;
-    let (digits, told) = rest.split_once('|')?;
+    let (digits, content) = rest.split_once('|')?;
     let order = if mark == "<" {
         Order::Little
     } else {
         Order::Big
     };
-    Some(read(alloc, order, digits)?.err()? == fault_of(told)?)
+    Some(read(alloc, order, digits)?.err()? == fault_of(content)?)
 }
 
 #[test]

@@ -1,13 +1,13 @@
-//! Outermost TypeCodes with indirections: bytes of a reference that shares no code with td_codes.
+//! Outermost TypeCodes with indirections: bytes of a reference that shares no code with td_typecode.
 
 use crate::making::whole_of;
 use std::alloc::Global;
 use td_cdr::{Boxed, CdrFault, Order, Reader, ValueFault, Writer};
-use td_codes::{TypeCode, read_typecode, write_typecode};
 use td_sameness::same_type;
+use td_typecode::{TypeCode, read_typecode, write_typecode};
 
-/// What it is, an order, bytes in it, and the graph that they spell. A node is `KIND ID NAMES NUMBERS EDGES`. It is written
-/// so again.
+/// What it is, an order, bytes in it, and the graph that they spell. A node is `KIND ID NAMES NUMBERS EDGES`. It is
+/// written so again.
 const SPELLED: &str =
     "a struct of a sequence of itself|>|0000000f00000044000000000000000a49444c3a4e3a312e30000000000000024e00000000000001000000056e65787400000000000000130000001000000000ffffffffffffffbc00000000|15 IDL:N:1.0 N,next - 1;19 - - 0 0
 a struct of a sequence of itself|<|0f00000044000000010000000a00000049444c3a4e3a312e30000000020000004e00000001000000050000006e65787400000000130000001000000001000000ffffffffbcffffff00000000|15 IDL:N:1.0 N,next - 1;19 - - 0 0
@@ -67,7 +67,7 @@ fn read(alloc: Global, order: Order, digits: &str) -> Option<Result<Boxed<TypeCo
 }
 
 /// Whether the bytes are read as the graph that the line tells, which is written as these bytes where it is to be.
-fn is_told(alloc: Global, line: &str, again: bool) -> Option<bool> {
+fn is_content(alloc: Global, line: &str, again: bool) -> Option<bool> {
     let (_name, rest) = line.split_once('|')?;
     let (mark, rest) = rest.split_once('|')?;
     let (digits, nodes) = rest.split_once('|')?;
@@ -92,8 +92,8 @@ fn is_written(alloc: Global, order: Order, code: &TypeCode, bytes: &[u8]) -> Opt
 }
 
 /// The fault that a line tells.
-fn fault_of(told: &str) -> Option<ValueFault> {
-    let (name, place) = told.split_once(' ')?;
+fn fault_of(content: &str) -> Option<ValueFault> {
+    let (name, place) = content.split_once(' ')?;
     let place = place.parse::<u32>().ok()?;
     match name {
         "Short" => Some(ValueFault::Cdr(CdrFault::Short(place))),
@@ -107,8 +107,8 @@ fn fault_of(told: &str) -> Option<ValueFault> {
 fn is_refused(alloc: Global, line: &str) -> Option<bool> {
     let (_name, rest) = line.split_once('|')?;
     let (mark, rest) = rest.split_once('|')?;
-    let (digits, told) = rest.split_once('|')?;
-    Some(read(alloc, order_of(mark), digits)?.err()? == fault_of(told)?)
+    let (digits, content) = rest.split_once('|')?;
+    Some(read(alloc, order_of(mark), digits)?.err()? == fault_of(content)?)
 }
 
 /// A struct of so many long members and one that leads to the struct: one node more than members of type long.
@@ -162,10 +162,10 @@ fn are_many(alloc: Global) -> Option<bool> {
 fn outermost_typecodes(rt: HostRuntime) {
     let alloc = rt.alloc();
     for line in SPELLED.lines() {
-        assert!(rt; is_told(alloc, line, true) == Some(true), "{line}");
+        assert!(rt; is_content(alloc, line, true) == Some(true), "{line}");
     }
     for line in READ.lines() {
-        assert!(rt; is_told(alloc, line, false) == Some(true), "{line}");
+        assert!(rt; is_content(alloc, line, false) == Some(true), "{line}");
     }
     for line in REFUSED.lines() {
         assert!(rt; is_refused(alloc, line) == Some(true), "{line}");

@@ -3,10 +3,11 @@
 use crate::making::whole_of;
 use std::alloc::Global;
 use td_cdr::{Boxed, List, Order, Reader, Text, Twin};
-use td_codes::{Member, TypeCode, read_typecode};
 use td_sameness::same_type;
+use td_typecode::{Member, TypeCode, read_typecode};
 
-/// A graph, the bytes of a TypeCode that is none, and whether they are the same. A node is `KIND ID NAMES NUMBERS EDGES`.
+/// A graph, the bytes of a TypeCode that is none, and whether they are the same. A node is `KIND ID NAMES NUMBERS
+/// EDGES`.
 const PAIRS: &str =
     "15 - S,x,y - 1,1;15 P p,a - 2;3 - - - -|0000000f0000008000000000000000010000000000000002530000000000000200000002780000000000000f0000002400000000000000025000000000000002700000000000000100000002610000000000000300000002790000000000000f00000024000000000000000250000000000000027000000000000001000000026100000000000003|yes
 15 - S,x,y - 1,1;15 P p,a - 2;3 - - - -|0000000f0000008000000000000000010000000000000002530000000000000200000002780000000000000f0000002400000000000000025000000000000002700000000000000100000002610000000000000300000002790000000000000f00000024000000000000000250000000000000027000000000000001000000026100000000000002|no
@@ -55,8 +56,8 @@ fn tree_of(alloc: Global, digits: &str) -> Option<Boxed<TypeCode>> {
 }
 
 /// Whether two TypeCodes are the same, which goes both ways, as a line tells.
-fn is_told(alloc: Global, first: &TypeCode, second: &TypeCode, told: &str) -> Option<bool> {
-    let yes = told == "yes";
+fn is_content(alloc: Global, first: &TypeCode, second: &TypeCode, content: &str) -> Option<bool> {
+    let yes = content == "yes";
     Some(
         same_type(alloc, first, second).ok()? == yes
             && same_type(alloc, second, first).ok()? == yes,
@@ -65,25 +66,25 @@ fn is_told(alloc: Global, first: &TypeCode, second: &TypeCode, told: &str) -> Op
 
 fn is_pair(alloc: Global, line: &str) -> Option<bool> {
     let (nodes, rest) = line.split_once('|')?;
-    let (digits, told) = rest.split_once('|')?;
+    let (digits, content) = rest.split_once('|')?;
     let graph = graph_of(alloc, nodes)?;
     let tree = tree_of(alloc, digits)?;
-    is_told(alloc, graph.get(), tree.get(), told)
+    is_content(alloc, graph.get(), tree.get(), content)
 }
 
 fn are_graphs(alloc: Global, line: &str) -> Option<bool> {
     let (nodes, rest) = line.split_once('|')?;
-    let (others, told) = rest.split_once('|')?;
+    let (others, content) = rest.split_once('|')?;
     let first = graph_of(alloc, nodes)?;
     let second = graph_of(alloc, others)?;
-    is_told(alloc, first.get(), second.get(), told)
+    is_content(alloc, first.get(), second.get(), content)
 }
 
 /// Whether a graph is the same as its copy.
 fn is_copied(alloc: Global) -> Option<bool> {
     let code = graph_of(alloc, "15 N N,next - 1;19 - - 0 0")?;
     let twin = code.copy(alloc).ok()?;
-    is_told(alloc, code.get(), twin.get(), "yes")
+    is_content(alloc, code.get(), twin.get(), "yes")
 }
 
 /// A struct whose one member is a graph.
@@ -111,7 +112,7 @@ fn around(alloc: Global) -> Option<Boxed<TypeCode>> {
 /// Whether a graph inside another TypeCode is the same as nothing.
 fn is_none_inside(alloc: Global) -> Option<bool> {
     let code = around(alloc)?;
-    is_told(alloc, code.get(), code.get(), "no")
+    is_content(alloc, code.get(), code.get(), "no")
 }
 
 #[test]

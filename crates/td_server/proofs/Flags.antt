@@ -2,7 +2,7 @@
 use Rattle.std.proofs.Common.{◌≡◌, ◌⊎◌, inl, inr, ℕ, zero, suc, ◌+◌, ◌-◌, Bool, true, false, List, [], ◌∷◌}
 use Rattle.std.proofs.Common.{◌++◌, length, slice_set, true≢false, refl, sym, ap, subst, ◌∙◌, arith}
 use Rattle.td_server.specs.Rows.{Rows}
-use Rattle.td_workers.specs.Works.{Working, came, closed, over, went}
+use Rattle.td_workers.specs.JobSources.{RunsJobs, came, closed, over, went}
 
 -- ---- the flags of one opening pass: for each pass that was split off it, whether it was met
 
@@ -137,7 +137,7 @@ abbrev pub Meet : List (List Bool) → ℕ → List ℕ × Bool → List (List B
 Meet a number made b = Rows Met a made.0 b
 
 pub none-left : {more : Bool} {a b : List (List Bool)} {n : ℕ} {out : List (ℕ × List ℕ)}
-    → Working Splits Stays Keeps place_of Meet more a n out b → AreOut a out → AreOut b []
+    → RunsJobs Splits Stays Keeps place_of Meet more a n out b → AreOut a out → AreOut b []
 none-left {a = a} {out = out} (came {m = m} {job = job} s w) h =
     none-left w
     (λ k j. out_more (flags_at a k) (flags_at m k) _ k j out (_, job) refl (row_at Split a job m k s) (h k j))

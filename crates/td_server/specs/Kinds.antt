@@ -2,7 +2,7 @@
 use Rattle.std.specs.Prelude.{◌≡◌, ◌⊎◌, ℕ, List}
 use Rattle.td_cdr.specs.Marks.{In}
 
-pub record Kind : Type 1 where
+pub record ServerKind : Type 1 where
   -- what is seen of what all sessions share
   pub World : Type 0
   -- what each session is given, as the address of the objects that it reaches
@@ -29,7 +29,7 @@ pub record Kind : Type 1 where
       → (last : World) → Type 0
 
 -- what is to hold of them
-pub record Laws (k : Kind) : Type 0 where
+pub record Laws (k : ServerKind) : Type 0 where
   pub itself : (w : k.World) → k.Continues w w
   pub on : (u v w : k.World) → k.Continues u v → k.Continues v w → k.Continues u w
   -- what is one's own doesn't matter there

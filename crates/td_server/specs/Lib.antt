@@ -1,4 +1,4 @@
-pub mod HallLaws
+pub mod JobSourceLaws
 pub mod Kinds
 pub mod Rows
 pub mod Sessions

@@ -8,7 +8,7 @@ use crate::service::Service;
 use crate::session::{Served, Session};
 use td_accept::{Accept, Gate, Visitor};
 use td_cdr::Octets;
-use td_workers::{Hall, Stop};
+use td_workers::{JobSource, Stop};
 
 /// Where visitors come in, and where their sessions go out.
 #[derive(Drop)]
@@ -19,7 +19,7 @@ pub(crate) struct Reception<'a, 'g, A, G, F> {
     pub(crate) service: F,
 }
 
-impl<'a, 'g, A, G, P, Q, E, F> Hall<
+impl<'a, 'g, A, G, P, Q, E, F> JobSource<
     Served<A::S, A::K, A::L, A::W, E, Q>,
     Session<'g, A::S, A::K, A::L, A::W, P, G>,
 > for Reception<'a, 'g, A, G, F>
@@ -33,7 +33,7 @@ where
 {
     ghost goes = { λ a b. (a.accept.ghost_name ≡ b.accept.ghost_name) × F.goes a.service b.service
         × (b.seed ≡ a.seed) × (A.faults a.accept.now ≤ A.faults b.accept.now)
-        × HandsSome {k = F.kind} (F.told a.service) (F.told b.service) };
+        × HandsSome {k = F.kind} (F.content a.service) (F.content b.service) };
 
     ghost ready = { λ a. F.ready a.service × (A.bound a.accept.now ≡ true)
         × (length a.seed.now ≡ 32) };
@@ -44,8 +44,8 @@ where
         (record {
           given = F.given a.service;
           seed = a.seed.now;
-          door = A.told a.accept.now;
-          told = F.told a.service;
+          door = A.content a.accept.now;
+          content = F.content a.service;
           world = F.seen a.service;
         })
         number
@@ -59,8 +59,8 @@ where
         (record {
           given = F.given b.service;
           seed = b.seed.now;
-          door = A.told b.accept.now;
-          told = F.told b.service;
+          door = A.content b.accept.now;
+          content = F.content b.service;
           world = F.seen b.service;
         })
         × F.begins a.service job.pass b.service };
@@ -69,15 +69,15 @@ where
         (record {
           given = F.given a.service;
           seed = a.seed.now;
-          door = A.told a.accept.now;
-          told = F.told a.service;
+          door = A.content a.accept.now;
+          content = F.content a.service;
           world = F.seen a.service;
         })
         (record {
           given = F.given b.service;
           seed = b.seed.now;
-          door = A.told b.accept.now;
-          told = F.told b.service;
+          door = A.content b.accept.now;
+          content = F.content b.service;
           world = F.seen b.service;
         })
         × (b.service ≡ a.service) };
@@ -86,8 +86,8 @@ where
         (record {
           given = F.given a.service;
           seed = a.seed.now;
-          door = A.told a.accept.now;
-          told = F.told a.service;
+          door = A.content a.accept.now;
+          content = F.content a.service;
           world = F.seen a.service;
         })
         number
@@ -100,8 +100,8 @@ where
         (record {
           given = F.given b.service;
           seed = b.seed.now;
-          door = A.told b.accept.now;
-          told = F.told b.service;
+          door = A.content b.accept.now;
+          content = F.content b.service;
           world = F.seen b.service;
         })
         × F.ends a.service made.pass b.service };
@@ -109,7 +109,7 @@ where
     ghost stops = { λ a why b. StopsSo why (A.faults a.accept.now) (A.faults b.accept.now) };
 
     ghost use Rattle.std.proofs.Common.{refl, ◌∙◌};
-    ghost use Rattle.td_server.specs.HallLaws.{goes_up, hands_none, hands_on, stays_as, stops_later};
+    ghost use Rattle.td_server.specs.JobSourceLaws.{goes_up, hands_none, hands_on, stays_as, stops_later};
 
     ghost goes_itself = { λ a.
         (refl, F.goes_itself _, refl, stays_as _, hands_none {k = F.kind} _ _ refl) };
@@ -126,7 +126,7 @@ where
 
     ghost stops_memory = { λ a b p. tt };
 
-    #[tactic(auto, using(crate::specs::HallLaws::hands_none))]
+    #[tactic(auto, using(crate::specs::JobSourceLaws::hands_none))]
     fn next(
         &mut self,
         number: u64,
@@ -150,7 +150,7 @@ where
         }
     }
 
-    #[tactic(auto, using(crate::specs::HallLaws::hands_none))]
+    #[tactic(auto, using(crate::specs::JobSourceLaws::hands_none))]
     fn part(
         &mut self,
         number: u64,

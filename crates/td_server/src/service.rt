@@ -1,8 +1,8 @@
 //! What the sessions of a server share.
 
 ghost use Rattle.std.specs.Prelude.{◌≡◌, ℕ, Option, is_some, option_map, IfOk, OnErr, OnOk};
-ghost use Rattle.td_server.specs.Kinds.{Kind, Laws};
-ghost use Rattle.td_server.specs.Sessions.{Connection, Told, with_session};
+ghost use Rattle.td_server.specs.Kinds.{ServerKind, Laws};
+ghost use Rattle.td_server.specs.Sessions.{Connection, HandedSessions, with_session};
 
 use crate::pass::Pass;
 use td_accept::{ClientSink, ClientSource, ClientWire, Limited};
@@ -22,7 +22,7 @@ pub trait Service<
     E,
 > {
     /// What is seen of what they share, and what it is to serve a session.
-    ghost kind: { Kind };
+    ghost kind: { ServerKind };
 
     /// What is told of a connection.
     ghost outside: { Connection → kind.Outside };
@@ -46,7 +46,7 @@ pub trait Service<
     ghost seen: { Self → kind.World };
 
     /// The sessions that were handed on, where it tells.
-    ghost told: { Self → Option (Told kind V) };
+    ghost content: { Self → Option (HandedSessions kind V) };
 
     /// The second may be what the first has become.
     ghost goes: { Self → Self → Type 0 };
@@ -67,11 +67,11 @@ pub trait Service<
     ///
     /// # Errors
     ///
-    /// `Memory` for want of memory alone.
+    /// `Memory` only when out of memory.
     fn begin(&mut self) -> Result<P, Memory>
         requires { ready self.old }
         ensures goes { goes self.old self.new }
-        ensures told { told self.new ≡ told self.old }
+        ensures content { content self.new ≡ content self.old }
         ensures ready { OnOk result (ready self.new) }
         ensures stays { OnOk result ((p : P) → waits self.old p → waits self.new p) }
         ensures waits { IfOk result (λ p. waits self.new p) }
@@ -85,7 +85,7 @@ pub trait Service<
     ///
     /// # Errors
     ///
-    /// `Memory` for want of memory alone; the session is then dropped.
+    /// `Memory` only when out of memory; the session is then dropped.
     fn end(
         &mut self,
         number: u64,
@@ -101,14 +101,14 @@ pub trait Service<
         ensures stays { OnOk result ((p : P) → waits self.old p → waits self.new p) }
         ensures ends { OnOk result (ends self.old pass self.new) }
         ensures joins { OnOk result (kind.Joins (seen self.old) (saw pass) (seen self.new)) }
-        ensures handed { OnOk result (told self.new ≡ option_map (with_session {k = kind}
+        ensures handed { OnOk result (content self.new ≡ option_map (with_session {k = kind}
             (record {
               number = number;
               visitor = visitor;
               limited = is_some limited;
               kept = kept ending;
-            })) (told self.old)) }
-        ensures untold { OnErr result (told self.new ≡ told self.old) };
+            })) (content self.old)) }
+        ensures unknown_content { OnErr result (content self.new ≡ content self.old) };
 
     ghost laws: { Laws kind };
 

@@ -2,9 +2,9 @@
 
 ghost use Rattle.std.specs.Prelude.{◌≡◌, ◌≤◌, [], length, true, IfErr, OnOk};
 ghost use Rattle.td_server.specs.Sessions.{HandsSome, StopsSo, connection};
-ghost use Rattle.td_server.specs.Steps.{Begins, Ends, Keeps, Stays, served_here};
+ghost use Rattle.td_server.specs.Steps.{BeginsSession, EndsSession, KeepsSame, Stays, served_here};
 ghost use Rattle.td_server.specs.Whole.{Whole};
-ghost use Rattle.td_workers.specs.Works.{Working};
+ghost use Rattle.td_workers.specs.JobSources.{RunsJobs};
 
 use crate::pass::Pass;
 use crate::reception::Reception;
@@ -23,7 +23,7 @@ use td_workers::{Stop, work_all};
 /// # Errors
 ///
 /// - `Failed` only where the acceptor's count of faults rose.
-/// - `Memory` for want of memory.
+/// - `Memory` when out of memory.
 ///
 /// Some sessions may have been handed on before.
 pub fn serve_all<
@@ -48,7 +48,7 @@ pub fn serve_all<
     ensures goes { F.goes service result.1 }
     ensures ready { OnOk result.0 (F.ready result.1) }
     ensures steps { OnOk result.0
-        (Working (Begins F.begins) Stays (Keeps P.same) served_here (Ends F.ends)
+        (RunsJobs (BeginsSession F.begins) Stays (KeepsSame P.same) served_here (EndsSession F.ends)
         true service 0 [] result.1) }
     ensures whole { OnOk result.0 (Whole {k = F.kind}
         (λ v. F.outside
@@ -56,18 +56,18 @@ pub fn serve_all<
         (A.K.faults v.sink))) (λ v. A.W.word_after v.words) (record {
           given = F.given service;
           seed = seed.now;
-          door = A.told accept.old;
-          told = F.told service;
+          door = A.content accept.old;
+          content = F.content service;
           world = F.seen service;
         })
         (record {
           given = F.given service;
           seed = seed.now;
-          door = A.told accept.new;
-          told = F.told result.1;
+          door = A.content accept.new;
+          content = F.content result.1;
           world = F.seen result.1;
         })) }
-    ensures handed { HandsSome {k = F.kind} (F.told service) (F.told result.1) }
+    ensures handed { HandsSome {k = F.kind} (F.content service) (F.content result.1) }
     ensures later { A.faults accept.old ≤ A.faults accept.new }
     ensures stops { IfErr result.0 (λ why. StopsSo why (A.faults accept.old)
         (A.faults accept.new)) }
@@ -111,7 +111,7 @@ fn receive_all<
     ensures goes { F.goes reception.entry.service result.1.service }
     ensures ready { OnOk result.0 (F.ready result.1.service) }
     ensures steps { OnOk result.0
-        (Working (Begins F.begins) Stays (Keeps P.same) served_here (Ends F.ends)
+        (RunsJobs (BeginsSession F.begins) Stays (KeepsSame P.same) served_here (EndsSession F.ends)
         true reception.entry.service 0 [] result.1.service) }
     ensures whole { OnOk result.0 (Whole {k = F.kind}
         (λ v. F.outside
@@ -119,19 +119,19 @@ fn receive_all<
         (A.K.faults v.sink))) (λ v. A.W.word_after v.words) (record {
           given = F.given reception.entry.service;
           seed = reception.entry.seed.now;
-          door = A.told reception.entry.accept.now;
-          told = F.told reception.entry.service;
+          door = A.content reception.entry.accept.now;
+          content = F.content reception.entry.service;
           world = F.seen reception.entry.service;
         })
         (record {
           given = F.given reception.entry.service;
           seed = reception.entry.seed.now;
-          door = A.told result.1.accept.now;
-          told = F.told result.1.service;
+          door = A.content result.1.accept.now;
+          content = F.content result.1.service;
           world = F.seen result.1.service;
         })) }
-    ensures handed { HandsSome {k = F.kind} (F.told reception.entry.service)
-        (F.told result.1.service) }
+    ensures handed { HandsSome {k = F.kind} (F.content reception.entry.service)
+        (F.content result.1.service) }
     ensures later { A.faults reception.entry.accept.now ≤ A.faults result.1.accept.now }
     ensures stops { IfErr result.0
         (λ why. StopsSo why (A.faults reception.entry.accept.now) (A.faults result.1.accept.now)) }

@@ -4,11 +4,11 @@ use Rattle.std.specs.Io.KnownBytes.{WriteAppends}
 use Rattle.td_accept.specs.Doors.{Door}
 use Rattle.td_accept.specs.declared.visitor.Limited.{Limited}
 use Rattle.td_out.specs.declared.fault.Failed.{Failed}
-use Rattle.td_server.specs.Kinds.{Kind, Laws}
-use Rattle.td_server.specs.Sessions.{Stand, Told}
+use Rattle.td_server.specs.Kinds.{ServerKind, Laws}
+use Rattle.td_server.specs.Sessions.{ServerState, HandedSessions}
 
 -- each is given the greeting, and what its write has answered is kept
-abbrev pub greetings : Kind
+abbrev pub greetings : ServerKind
 greetings = record {
   World = Unit {0};
   Given = List ℕ;
@@ -37,9 +37,9 @@ greeting_laws = record {
 }
 
 -- the sessions that were handed on: their numbers, visitors, that these were limited, and the answers
-abbrev pub told_of : {X : Type 0} → List (ℕ × X × Option Limited × Result ℕ Failed)
-    → Option (Told greetings X)
-told_of {X} hs = Some (record {
+abbrev pub content_of : {X : Type 0} → List (ℕ × X × Option Limited × Result ℕ Failed)
+    → Option (HandedSessions greetings X)
+content_of {X} hs = Some (record {
   sessions =
       map (λ (h : ℕ × X × Option Limited × Result ℕ Failed). record {
         number = h.0;
@@ -51,6 +51,6 @@ told_of {X} hs = Some (record {
 })
 
 abbrev pub stand_of : {X : Type 0} → (greeting seed : List ℕ) → Option (Door X)
-    → List (ℕ × X × Option Limited × Result ℕ Failed) → Stand greetings X
+    → List (ℕ × X × Option Limited × Result ℕ Failed) → ServerState greetings X
 stand_of greeting seed door hs =
-    record { given = greeting; seed = seed; door = door; told = told_of hs; world = tt }
+    record { given = greeting; seed = seed; door = door; content = content_of hs; world = tt }

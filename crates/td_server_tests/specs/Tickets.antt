@@ -7,8 +7,8 @@ use Rattle.std.specs.List.{list_any}
 use Rattle.td_accept.specs.Doors.{Door}
 use Rattle.td_accept.specs.declared.visitor.Limited.{Limited}
 use Rattle.td_cdr.specs.Marks.{In}
-use Rattle.td_server.specs.Kinds.{Kind, Laws}
-use Rattle.td_server.specs.Sessions.{Stand, Told}
+use Rattle.td_server.specs.Kinds.{ServerKind, Laws}
+use Rattle.td_server.specs.Sessions.{ServerState, HandedSessions}
 
 -- the highest ticket that was seen, and one's own ones
 pub record Roll : Type 0 where
@@ -37,7 +37,7 @@ pub record Draws (first : Roll) (words : ℕ → ℕ) (word : ℕ) (last : Roll)
   pub own : IsOne last.own last.highest
   pub kept : word ≡ words 0
 
-abbrev pub tickets : Kind
+abbrev pub tickets : ServerKind
 tickets = record {
   World = Roll;
   Given = Unit {0};
@@ -53,8 +53,9 @@ tickets = record {
 }
 
 -- the sessions that were handed on: their numbers, visitors, that these were limited, and their words
-abbrev pub told_of : {X : Type 0} → List (ℕ × X × Option Limited × ℕ) → Option (Told tickets X)
-told_of {X} hs = Some (record {
+abbrev pub content_of : {X : Type 0} → List (ℕ × X × Option Limited × ℕ)
+    → Option (HandedSessions tickets X)
+content_of {X} hs = Some (record {
   sessions =
       map (λ (h : ℕ × X × Option Limited × ℕ). record {
         number = h.0;
@@ -66,12 +67,12 @@ told_of {X} hs = Some (record {
 })
 
 abbrev pub stand_of : {X : Type 0} → (seed : List ℕ) → Option (Door X)
-    → List (ℕ × X × Option Limited × ℕ) → (highest : ℕ) → (own : List ℕ) → Stand tickets X
+    → List (ℕ × X × Option Limited × ℕ) → (highest : ℕ) → (own : List ℕ) → ServerState tickets X
 stand_of seed door hs highest own = record {
   given = tt;
   seed = seed;
   door = door;
-  told = told_of hs;
+  content = content_of hs;
   world = seen_of highest own;
 }
 

@@ -3,7 +3,7 @@
 ghost use Rattle.std.specs.Prelude.{◌≡◌, length, true, OnOk};
 ghost use Rattle.std.specs.Io.KnownBytes.{WriteAppends};
 ghost use Rattle.td_server.specs.Whole.{Whole};
-ghost use Rattle.td_server_tests.specs.Greetings.{greetings, stand_of, told_of};
+ghost use Rattle.td_server_tests.specs.Greetings.{greetings, stand_of, content_of};
 
 use crate::ended::EndedSessions;
 use std::alloc::Global;
@@ -76,7 +76,7 @@ impl<
 
     ghost seen = { λ a. tt };
 
-    ghost told = { λ a. told_of a.ended.now.sessions };
+    ghost content = { λ a. content_of a.ended.now.sessions };
 
     ghost goes = { λ a b. (a.ended.ghost_name ≡ b.ended.ghost_name) × (b.greeting ≡ a.greeting) };
 
@@ -138,8 +138,8 @@ pub fn serve_greetings<A: Accept, G: Gate, R: Threads + Wait>(
     requires seed { length seed.now ≡ 32 }
     ensures whole { OnOk result (Whole {k = greetings} (λ v. A.K.written v.sink)
         (λ v. A.W.word_after v.words)
-        (stand_of greeting.now seed.now (A.told accept.old) ended.old.sessions)
-        (stand_of greeting.now seed.now (A.told accept.new) ended.new.sessions)) }
+        (stand_of greeting.now seed.now (A.content accept.old) ended.old.sessions)
+        (stand_of greeting.now seed.now (A.content accept.new) ended.new.sessions)) }
 {
     let service = Greetings { greeting, ended };
     let (stop, back) = greet_all(rt, alloc, seed, accept, gate, service);
@@ -165,9 +165,9 @@ fn greet_all<'e, 'g, A: Accept, G: Gate, R: Threads + Wait>(
     ensures same_ended { result.1.ended.ghost_name ≡ service.entry.ended.ghost_name }
     ensures whole { OnOk result.0 (Whole {k = greetings} (λ v. A.K.written v.sink)
         (λ v. A.W.word_after v.words)
-        (stand_of service.entry.greeting.now seed.now (A.told accept.old)
+        (stand_of service.entry.greeting.now seed.now (A.content accept.old)
         service.entry.ended.now.sessions)
-        (stand_of service.entry.greeting.now seed.now (A.told accept.new)
+        (stand_of service.entry.greeting.now seed.now (A.content accept.new)
         result.1.ended.now.sessions)) }
 {
     serve_all(rt, alloc, seed, accept, gate, service)

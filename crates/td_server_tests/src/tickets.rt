@@ -3,7 +3,7 @@
 ghost use Rattle.std.specs.Prelude.{◌≡◌, ◌≤◌, ℕ, [], ◌∷◌, ◌++◌, length, true, OnOk};
 ghost use Rattle.td_cdr.specs.Marks.{In};
 ghost use Rattle.td_server.specs.Whole.{Whole};
-ghost use Rattle.td_server_tests.specs.Tickets.{Draws, seen_of, stand_of, tickets, told_of};
+ghost use Rattle.td_server_tests.specs.Tickets.{Draws, seen_of, stand_of, tickets, content_of};
 
 use crate::ended::EndedSessions;
 use std::alloc::Global;
@@ -128,7 +128,7 @@ impl<
 
     ghost seen = { λ a. seen_of a.noted.highest a.noted.own.items };
 
-    ghost told = { λ a. told_of a.noted.ended.sessions };
+    ghost content = { λ a. content_of a.noted.ended.sessions };
 
     ghost goes = { λ a b. Unit {0} };
 
@@ -219,8 +219,9 @@ pub fn serve_tickets<A: Accept, G: Gate, R: Threads + Wait + Sync>(
     requires bound { A.bound accept.old ≡ true }
     requires seed { length seed.now ≡ 32 }
     ensures whole { OnOk result.0 (Whole {k = tickets} (λ v. tt) (λ v. A.W.word_after v.words)
-        (stand_of seed.now (A.told accept.old) noted.ended.sessions noted.highest noted.own.items)
-        (stand_of seed.now (A.told accept.new) result.1.ended.sessions result.1.highest
+        (stand_of seed.now (A.content accept.old) noted.ended.sessions noted.highest
+        noted.own.items)
+        (stand_of seed.now (A.content accept.new) result.1.ended.sessions result.1.highest
         result.1.own.items)) }
 {
     let service = Tickets { rt, roll, noted };

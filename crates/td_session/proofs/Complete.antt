@@ -5,13 +5,13 @@ use Rattle.std.specs.Io.KnownBytes.{Appends}
 use Rattle.td_cdr.specs.Marks.{Marks}
 use Rattle.td_lookup.specs.Scenes.{Scene}
 use Rattle.td_register.specs.declared.history.Accepted.{Accepted}
-use Rattle.td_reply.specs.declared.entry.Entry.{Entry}
-use Rattle.td_stream.specs.Exchanges.{Exchange, messages_of, output}
+use Rattle.td_servant.specs.declared.entry.Entry.{Entry}
+use Rattle.td_stream.specs.Exchanges.{MessageExchange, messages_of, output}
 use Rattle.td_stream.specs.Messages.{is_closing}
 use Rattle.td_stream.specs.Outside.{Outside}
 use Rattle.td_stream.specs.declared.end.End.{End}
 use Rattle.td_stream.proofs.Complete.{complete as stream_complete}
-use Rattle.td_turns.specs.Turns.{Run, exchanges_of, journal_of}
+use Rattle.td_session_runs.specs.Turns.{Run, exchanges_of, journal_of}
 use Rattle.td_walk.specs.declared.trace.Address.{Address}
 use Rattle.td_session.specs.Completeness.{Completes}
 use Rattle.td_session.specs.Serving.{ServesMessage, Stays}
@@ -44,10 +44,10 @@ module _ (others : List Accepted → Type 0) (later : Marks → Marks → Type 0
                     subst (λ (x : Scene). Run others later home s t.turns x)
                     (ap (λ (x : Stage). x.scene) (sym all.stayed)) t.leads.run;
                 all =
-                    subst (λ (xs : List Exchange). messages_of xs ≡ before_first is_closing messages) (sym t.are)
+                    subst (λ (xs : List MessageExchange). messages_of xs ≡ before_first is_closing messages) (sym t.are)
                     all.all;
                 gave =
-                    subst (λ (xs : List Exchange). Appends before.written after.written (output xs)) (sym t.are)
+                    subst (λ (xs : List MessageExchange). Appends before.written after.written (output xs)) (sym t.are)
                     all.gave;
               },
             )

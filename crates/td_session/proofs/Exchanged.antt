@@ -6,16 +6,16 @@ use Rattle.td_cdr.specs.Place.{At}
 use Rattle.td_giop.specs.Heads.{Request, request_at, locate_at, cancel_at}
 use Rattle.td_lookup.specs.Scenes.{Scene}
 use Rattle.td_register.specs.declared.history.Accepted.{Accepted}
-use Rattle.td_reply.specs.declared.entry.Entry.{Entry}
-use Rattle.td_stream.specs.Exchanges.{Exchange, Run as StreamRun}
+use Rattle.td_servant.specs.declared.entry.Entry.{Entry}
+use Rattle.td_stream.specs.Exchanges.{MessageExchange, Run as StreamRun}
 use Rattle.td_stream.specs.Messages.{behind, kind_of, minor_of}
 use Rattle.td_stream.specs.Outside.{Outside}
 use Rattle.td_stream.specs.Steps.{answers, step_of}
-use Rattle.td_stream.specs.Streams.{Finishes, Streams}
+use Rattle.td_stream.specs.Streams.{StreamFinishes, Streams}
 use Rattle.td_stream.specs.declared.end.End.{End}
-use Rattle.td_turns.proofs.Gifts.{gave-admitted}
-use Rattle.td_turns.specs.Journals.{all_gave}
-use Rattle.td_turns.specs.Turns.{IsTurn, Run, Turn, exchanges_of, journal_of, noted_of, request, locate, cancel}
+use Rattle.td_session_runs.proofs.Gifts.{gave-admitted}
+use Rattle.td_session_runs.specs.Journals.{all_gave}
+use Rattle.td_session_runs.specs.Turns.{IsTurn, Run, Turn, exchanges_of, journal_of, noted_of, request, locate, cancel}
 use Rattle.td_walk.specs.Peering.{AdmitsExchanges}
 use Rattle.td_walk.specs.declared.trace.Address.{Address}
 use Rattle.td_session.specs.Serving.{ServesMessage, Stays}
@@ -49,12 +49,12 @@ module _ (others : List Accepted → Type 0) (later : Marks → Marks → Type 0
   -- ---- from exchanges to turns
 
   -- turns with these messages and replies
-  pub record Turned (s u : Stage) (xs : List Exchange) : Type 0 where
+  pub record Turned (s u : Stage) (xs : List MessageExchange) : Type 0 where
     pub turns : List Turn
     pub leads : Leads others later turns s u
     pub are : exchanges_of turns ≡ xs
 
-  pub turned : (s u : Stage) (xs : List Exchange) → StreamRun (ServesMessage others later) s xs u → Turned s u xs
+  pub turned : (s u : Stage) (xs : List MessageExchange) → StreamRun (ServesMessage others later) s xs u → Turned s u xs
   turned s u [] r = record { turns = []; leads = leads-kept others later s u r; are = refl }
   turned s u (x ∷ xs) r =
       let first = r.1.served in
@@ -65,7 +65,7 @@ module _ (others : List Accepted → Type 0) (later : Marks → Marks → Type 0
         leads =
             leads-then others later s r.0 u (t ∷ []) rest.turns
             (record { run = (first.turn, refl); noted = first.journal; home = first.home }) rest.leads;
-        are = ap (λ (l : List Exchange). x ∷ l) rest.are;
+        are = ap (λ (l : List MessageExchange). x ∷ l) rest.are;
       }
 
   -- with nothing noted at first, and peers of which all that they gave can be written
@@ -81,7 +81,7 @@ module _ (others : List Accepted → Type 0) (later : Marks → Marks → Type 0
         turns = t.turns;
         run = leads.run;
         noted = leads.noted ∙ ap (λ (x : List Entry). x ++ journal_of t.turns) first;
-        stream = subst (λ (xs : List Exchange). Finishes xs end before after [] 0 0) (sym t.are) r.stream;
+        stream = subst (λ (xs : List MessageExchange). StreamFinishes xs end before after [] 0 0) (sym t.are) r.stream;
         headline = headline;
         gifts = gave-admitted s.scene.peers u.scene.peers (all_gave (noted_of t.turns)) headline.peers gave;
       }

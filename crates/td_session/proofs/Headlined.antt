@@ -3,10 +3,10 @@ use Rattle.std.proofs.Common.{List, [], ◌∷◌}
 use Rattle.td_cdr.specs.Marks.{Marks}
 use Rattle.td_lookup.specs.Scenes.{Scene}
 use Rattle.td_register.specs.declared.history.Accepted.{Accepted}
-use Rattle.td_turns.specs.Turns.{IsTurn, Run, Turn}
-use Rattle.td_turns.proofs.Running.{accepted-stand, none-invented, own-accepted, own-searches, points-rise}
-use Rattle.td_turns.proofs.Running.{peers-shown, queries-walk}
-use Rattle.td_turns.proofs.Running.{refused-nothing, seen-legal, wanting-nothing, words-drawn}
+use Rattle.td_session_runs.specs.Turns.{IsTurn, Run, Turn}
+use Rattle.td_session_runs.proofs.Running.{accepted-stand, none-invented, own-accepted, own-searches, points-rise}
+use Rattle.td_session_runs.proofs.Running.{peers-shown, queries-walk}
+use Rattle.td_session_runs.proofs.Running.{refused-nothing, seen-legal, no_memory_outcome-nothing, words-drawn}
 use Rattle.td_walk.specs.declared.trace.Address.{Address}
 use Rattle.td_session.specs.Headline.{EachTurn, Headline, OfRequest}
 
@@ -15,8 +15,8 @@ module _ (others : List Accepted → Type 0) (later : Marks → Marks → Type 0
   of_turn s t h = record {
     peers = λ n is. peers-shown others later home s t n h is;
     refusal = λ n is refused. refused-nothing others later home s t n h is refused;
-    no_memory = λ n is wants. wanting-nothing others later home s t n h is wants;
-    walk = λ n x q is asks told. queries-walk others later home s t n x q h is asks told;
+    no_memory = λ n is wants. no_memory_outcome-nothing others later home s t n h is wants;
+    walk = λ n x q is asks content. queries-walk others later home s t n x q h is asks content;
   }
 
   of_each : (s u : Scene) (ts : List Turn) → Run others later home s ts u

@@ -5,8 +5,8 @@ use Rattle.std.proofs.lemmas.List.{append-nil, map-append}
 use Rattle.td_cdr.specs.Marks.{Marks}
 use Rattle.td_lookup.specs.Scenes.{Scene}
 use Rattle.td_register.specs.declared.history.Accepted.{Accepted}
-use Rattle.td_reply.specs.declared.entry.Entry.{Entry}
-use Rattle.td_turns.specs.Turns.{Noted, Turn, Run, journal_of, noted_in, noted_of}
+use Rattle.td_servant.specs.declared.entry.Entry.{Entry}
+use Rattle.td_session_runs.specs.Turns.{ServedRequest, Turn, Run, journal_of, noted_in, noted_of}
 use Rattle.td_walk.specs.declared.trace.Address.{Address}
 use Rattle.td_session.specs.Stages.{Stage}
 
@@ -15,13 +15,13 @@ use Rattle.td_session.specs.Stages.{Stage}
 noted-append : (ts us : List Turn) → noted_of (ts ++ us) ≡ noted_of ts ++ noted_of us
 noted-append [] us = refl
 noted-append (t ∷ ts) us =
-    ap (λ (x : List Noted). noted_in t.request ++ x) (noted-append ts us)
+    ap (λ (x : List ServedRequest). noted_in t.request ++ x) (noted-append ts us)
     ∙ sym (append_assoc (noted_in t.request) (noted_of ts) (noted_of us))
 
 pub journal-append : (ts us : List Turn) → journal_of (ts ++ us) ≡ journal_of ts ++ journal_of us
 journal-append ts us =
-    ap (λ (x : List Noted). map (λ (n : Noted). n.entry) x) (noted-append ts us)
-    ∙ map-append (λ (n : Noted). n.entry) (noted_of ts) (noted_of us)
+    ap (λ (x : List ServedRequest). map (λ (n : ServedRequest). n.entry) x) (noted-append ts us)
+    ∙ map-append (λ (n : ServedRequest). n.entry) (noted_of ts) (noted_of us)
 
 module _ (others : List Accepted → Type 0) (later : Marks → Marks → Type 0) where
   -- These turns lead from one stage to the other: the journal grew by what is noted of them, and the address stays.

@@ -12,18 +12,18 @@ use Rattle.td_iter.specs.Desks.{Live}
 use Rattle.td_lookup.specs.Scenes.{scene}
 use Rattle.td_ops.specs.declared.outcome.Outcome.{Outcome}
 use Rattle.td_register.specs.declared.history.Accepted.{Accepted}
-use Rattle.td_reply.specs.Classes.{request_class}
-use Rattle.td_reply.specs.Judging.{judged}
-use Rattle.td_reply.specs.Linking.{PeersSeen}
-use Rattle.td_reply.specs.declared.entry.Entry.{Entry}
-use Rattle.td_serve.specs.Backends.{BackendSeen, scene_of}
-use Rattle.td_serve.specs.ReplyBytes.{reply_to}
-use Rattle.td_serve.specs.Requests.{NotesNoCall, Served}
+use Rattle.td_servant.specs.Classes.{request_class}
+use Rattle.td_servant.specs.Judging.{judge_request}
+use Rattle.td_servant.specs.Linking.{PeersSeen}
+use Rattle.td_servant.specs.declared.entry.Entry.{Entry}
+use Rattle.td_dispatch.specs.Backends.{BackendSeen, scene_of}
+use Rattle.td_dispatch.specs.ReplyBytes.{reply_to}
+use Rattle.td_dispatch.specs.Requests.{NotesNoCall, RepliesTo}
 use Rattle.td_stream.specs.Heads.{IsMessage}
 use Rattle.td_stream.specs.Messages.{behind, order_of}
 use Rattle.td_trader.specs.Worlds.{View}
-use Rattle.td_turns.specs.Turns.{IsTurn, Noted, ServesCancel, ServesLocate, ServesRequest}
-use Rattle.td_turns.specs.Turns.{request as request_turn, locate as locate_turn, cancel as cancel_turn}
+use Rattle.td_session_runs.specs.Turns.{IsTurn, ServedRequest, ServesCancel, ServesLocate, ServesRequest}
+use Rattle.td_session_runs.specs.Turns.{request as request_turn, locate as locate_turn, cancel as cancel_turn}
 use Rattle.td_walk.specs.declared.trace.Address.{Address}
 use Rattle.td_session.specs.Serving.{ServesMessage}
 use Rattle.td_session.specs.Stages.{Stage, stage, turn_of}
@@ -37,16 +37,16 @@ module _ (others : List Accepted → Type 0) (later : Marks → Marks → Type 0
   pub request_served : (home : Address) (b c : BackendSeen) (d e : Live) (journal after : List Entry) (m : Raw)
       (reply : List ℕ) (head : Request) (body : At) (entry : Entry) → IsMessage m → m.kind ≡ 0
       → request_at m.minor (behind_header m.order m.bytes.now) ≡ Ok (head, body)
-      → ((o : Outcome) × Served others later home (reply_to m.order m.minor head)
-      (judged b.world d head.key head.operation body) (scene_of b d) o entry reply (scene_of c e))
-      → NotesNoCall (request_class b.world d head.key head.operation) (judged b.world d head.key head.operation body)
+      → ((o : Outcome) × RepliesTo others later home (reply_to m.order m.minor head)
+      (judge_request b.world d head.key head.operation body) (scene_of b d) o entry reply (scene_of c e))
+      → NotesNoCall (request_class b.world d head.key head.operation) (judge_request b.world d head.key head.operation body)
       entry → after ≡ journal ++ entry ∷ [] → AreOctets body.rest → length reply < 2 ^ 32
       → ServesMessage others later (stage home (scene_of b d) journal) m.bytes.now reply
       (stage home (scene_of c e) after)
-  request_served home b c d e journal after m reply head body entry is kind read told no_call grew octets short =
-      let j = judged b.world d head.key head.operation body in
-      let o : Outcome = told.0 in
-      let noted : Noted = record { judged = j; outcome = o; entry = entry } in
+  request_served home b c d e journal after m reply head body entry is kind read content no_call grew octets short =
+      let j = judge_request b.world d head.key head.operation body in
+      let o : Outcome = content.0 in
+      let noted : ServedRequest = record { judged = j; outcome = o; entry = entry } in
       let serves : ServesRequest others later home (scene_of b d)
       (turn_of m.bytes.now (Some noted) reply (scene_of c e)) =
       record {
@@ -61,11 +61,11 @@ module _ (others : List Accepted → Type 0) (later : Marks → Marks → Type 0
         asks = refl;
         served =
             subst
-            (λ (n : ℕ). Served others later home (reply_to (order_of m.bytes.now) n head) j (scene_of b d) o entry
+            (λ (n : ℕ). RepliesTo others later home (reply_to (order_of m.bytes.now) n head) j (scene_of b d) o entry
             reply (scene_of c e)) is.minor
             (subst
-            (λ (x : Order). Served others later home (reply_to x m.minor head) j (scene_of b d) o entry reply
-            (scene_of c e)) is.order told.1);
+            (λ (x : Order). RepliesTo others later home (reply_to x m.minor head) j (scene_of b d) o entry reply
+            (scene_of c e)) is.order content.1);
         no_call = no_call;
         octets = octets;
         short = short;
@@ -83,13 +83,13 @@ module _ (others : List Accepted → Type 0) (later : Marks → Marks → Type 0
   pub cancel_served : (s : Stage) (m : Raw) (id : ℕ) (reply : List ℕ) → IsMessage m → m.kind ≡ 2
       → cancel_at (behind_header m.order m.bytes.now) ≡ Ok id → reply ≡ []
       → ServesMessage others later s m.bytes.now reply s
-  cancel_served s m id reply is kind read told =
+  cancel_served s m id reply is kind read content =
       let serves : ServesCancel s.scene (turn_of m.bytes.now None reply s.scene) = record {
         id = id;
         kind = sym is.kind ∙ kind;
         read = subst (λ (o : Order). cancel_at (behind_header o m.bytes.now) ≡ Ok id) is.order read;
         request = refl;
-        told = told;
+        content = content;
         kept = refl;
       } in
       unchanged s m.bytes.now reply (cancel_turn serves)

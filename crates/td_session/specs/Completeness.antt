@@ -11,23 +11,23 @@ use Rattle.td_stream.specs.Messages.{is_closing}
 use Rattle.td_stream.specs.Outside.{Outside}
 use Rattle.td_stream.specs.declared.end.End.{End}
 use Rattle.td_stream.specs.declared.end.End.TheVariants.{Closed, Memory}
-use Rattle.td_turns.specs.Turns.{Turn, Run, exchanges_of}
+use Rattle.td_session_runs.specs.Turns.{Turn, Run, exchanges_of}
 use Rattle.td_walk.specs.declared.trace.Address.{Address}
 
 module _ (others : List Accepted → Type 0) (later : Marks → Marks → Type 0) (home : Address) where
   -- The messages before the first that closes the session, or all of them, were served in order, each where the one
   -- before has left everything, and their answers were given.
-  pub record ServesAll (s u : Scene) (before after : Outside)
+  pub record AnswersAll (s u : Scene) (before after : Outside)
       (messages : List (List ℕ)) : Type 0 where
     pub turns : List Turn
     pub run : Run others later home s turns u
     pub all : messages_of (exchanges_of turns) ≡ before_first is_closing messages
     pub gave : Appends before.written after.written (output (exchanges_of turns))
 
-  -- the session was closed when it had served these messages, or it ended for want of memory
+  -- the session was closed when it had served these messages, or it ended when out of memory
   abbrev pub IsComplete : Scene → Scene → End → Outside → Outside → List (List ℕ) → Type 0
   IsComplete s u end before after messages =
-      ((end ≡ Closed) × ServesAll s u before after messages) ⊎ (end ≡ Memory)
+      ((end ≡ Closed) × AnswersAll s u before after messages) ⊎ (end ≡ Memory)
 
   -- so it is wherever the source is such messages and none of the outside failed
   abbrev pub Completes : Scene → Scene → End → Outside → Outside → Type 0

@@ -4,10 +4,10 @@ use Rattle.std.proofs.Common.{inl, inr, arith, drop, eqb, refl}
 use Rattle.std.proofs.lemmas.Bool.{ne_eqb}
 use Rattle.td_cdr.specs.Marks.{Marks}
 use Rattle.td_cdr.specs.Writing.{Draft}
-use Rattle.td_codes.specs.Formats.{is_some}
+use Rattle.td_typecode.specs.Formats.{is_nonempty}
 use Rattle.td_iter.specs.Desks.{Live}
 use Rattle.td_iter.specs.declared.item.Item.{Item}
-use Rattle.td_lookup.specs.Querying.{VisitTold, offers_kept}
+use Rattle.td_lookup.specs.Querying.{AnswersVisit, offers_kept}
 use Rattle.td_lookup.specs.Scenes.{Scene}
 use Rattle.td_ops.specs.declared.call.Call.{Call as Asking}
 use Rattle.td_ops.specs.declared.call.Call.TheVariants as call
@@ -16,15 +16,15 @@ use Rattle.td_ops.specs.declared.call.IterCall.TheVariants as iter
 use Rattle.td_ops.specs.declared.call.Query.{Query}
 use Rattle.td_ops.specs.declared.outcome.Outcome.{Outcome}
 use Rattle.td_register.specs.declared.history.Accepted.{Accepted}
-use Rattle.td_reply.specs.Iterating.{IteratorDone}
-use Rattle.td_reply.specs.Looking.{CutsList, kept_for}
-use Rattle.td_reply.specs.declared.entry.Entry.{Entry}
-use Rattle.td_reply.specs.declared.judging.Judged.{Judged}
-use Rattle.td_reply.specs.declared.judging.Judged.TheVariants.{Call, Refused}
-use Rattle.td_reply.specs.declared.objects.Object.{Object}
-use Rattle.td_serve.specs.Requests.{Answers, Comes}
+use Rattle.td_servant.specs.Iterating.{IteratorDone}
+use Rattle.td_servant.specs.Looking.{CutsList, kept_for}
+use Rattle.td_servant.specs.declared.entry.Entry.{Entry}
+use Rattle.td_servant.specs.declared.judging.Judged.{Judged}
+use Rattle.td_servant.specs.declared.judging.Judged.TheVariants.{Call, Refused}
+use Rattle.td_servant.specs.declared.objects.Object.{Object}
+use Rattle.td_dispatch.specs.Requests.{AnswersRequest, OutcomeOfRequest}
 use Rattle.td_stream.specs.Messages.{is_request, kind_of}
-use Rattle.td_turns.specs.Turns.{IsTurn, Turn, request, locate, cancel}
+use Rattle.td_session_runs.specs.Turns.{IsTurn, Turn, request, locate, cancel}
 use Rattle.td_value.specs.declared.structures.Offer.{Offer}
 use Rattle.td_walk.specs.declared.trace.Address.{Address}
 use Rattle.td_walk.specs.declared.trace.Visit.{Visit}
@@ -50,11 +50,11 @@ one_of false d x e r h = same d e h
 
 ids_rise : (name : List ℕ) (left : List (List ℕ)) (d e : Live) → e ≡ kept_for name left d
     → Rises d e
-ids_rise name left d e h = one_of (is_some left) d _ e (omega arith) h
+ids_rise name left d e h = one_of (is_nonempty left) d _ e (omega arith) h
 
 offers_rise : (name : List ℕ) (left : List Offer) (d e : Live) → e ≡ offers_kept name left d
     → Rises d e
-offers_rise name left d e h = one_of (is_some left) d _ e (omega arith) h
+offers_rise name left d e h = one_of (is_nonempty left) d _ e (omega arith) h
 
 look_rises : (home : Address) (name : List ℕ) (n : ℕ) (ids : Option (List (List ℕ)))
     (found : Outcome) (draft : Draft) (d : Live) (o : Outcome) (e : Live)
@@ -70,7 +70,7 @@ iterator_rises name n (Some item) (iter.NextN m) d draft o e h = omega (arith, a
 iterator_rises name n (Some item) iter.Destroy d draft o e h = omega (arith, ap number h.1)
 
 visit_rises : (home : Address) (name : List ℕ) (q : Query) (v : Visit) (draft : Draft) (d : Live)
-    (o : Outcome) (e : Live) → VisitTold home name q v draft d o e → Rises d e
+    (o : Outcome) (e : Live) → AnswersVisit home name q v draft d o e → Rises d e
 visit_rises home name q (visit.Refused r) draft d o e h = same d e h.1
 visit_rises home name q (visit.Answered a max_list) draft d o e h = offers_rise name
     (drop h.count _) d e h.kept
@@ -90,7 +90,7 @@ not_request m k e some = rw (e, ne_eqb k 0 (omega (arith, some))) refl
 module _ (others : List Accepted → Type 0) (later : Marks → Marks → Type 0) (home : Address) where
   call_rises : (x : Object) (c : Asking) (draft : Draft) (s : Scene) (o : Outcome) (e : Entry)
       (t : Scene)
-      → Comes others later home (Call x c) draft s o e t → Rises s.desk t.desk
+      → OutcomeOfRequest others later home (Call x c) draft s o e t → Rises s.desk t.desk
   call_rises x (call.Change c) draft s o e t h = same s.desk t.desk (ap desk_of h.1)
   call_rises x (call.Look l) draft s o e t h = look_rises home _ _ _ h.0.found draft s.desk o t.desk
       h.0.cuts
@@ -104,12 +104,12 @@ module _ (others : List Accepted → Type 0) (later : Marks → Marks → Type 0
   call_rises x (call.Resolve names) draft s o e t h = same s.desk t.desk h.desk
 
   comes_rises : (j : Judged) (draft : Draft) (s : Scene) (o : Outcome) (e : Entry) (t : Scene)
-      → Comes others later home j draft s o e t → Rises s.desk t.desk
+      → OutcomeOfRequest others later home j draft s o e t → Rises s.desk t.desk
   comes_rises (Refused r) draft s o e t h = same s.desk t.desk (ap desk_of h.2)
   comes_rises (Call x c) draft s o e t h = call_rises x c draft s o e t h
 
   answers_rise : (j : Judged) (draft : Draft) (s : Scene) (o : Outcome) (e : Entry) (t : Scene)
-      → Answers others later home j draft s o e t → Rises s.desk t.desk
+      → AnswersRequest others later home j draft s o e t → Rises s.desk t.desk
   answers_rise j draft s o e t (inl comes) = comes_rises j draft s o e t comes
   answers_rise j draft s o e t (inr wants) = same s.desk t.desk wants.desk
 

@@ -1,7 +1,7 @@
 -- What a session keeps.
 use Rattle.std.specs.Prelude.{◌≡◌, ℕ, List, []}
 use Rattle.td_iter.specs.Desks.{Live}
-use Rattle.td_reply.specs.declared.entry.Entry.{Entry}
+use Rattle.td_servant.specs.declared.entry.Entry.{Entry}
 use Rattle.td_walk.specs.declared.trace.Address.{Address}
 
 -- where the group of traders is reached, the iterators of the connection, what is noted of each Request, in order, and

@@ -3,12 +3,12 @@ use Rattle.std.specs.Prelude.{◌≡◌, List, []}
 use Rattle.td_cdr.specs.Marks.{Marks}
 use Rattle.td_lookup.specs.Scenes.{Scene}
 use Rattle.td_register.specs.declared.history.Accepted.{Accepted}
-use Rattle.td_reply.specs.declared.entry.Entry.{Entry}
+use Rattle.td_servant.specs.declared.entry.Entry.{Entry}
 use Rattle.td_stream.specs.Outside.{Outside}
-use Rattle.td_stream.specs.Streams.{Finishes}
+use Rattle.td_stream.specs.Streams.{StreamFinishes}
 use Rattle.td_stream.specs.declared.end.End.{End}
-use Rattle.td_turns.specs.Journals.{all_gave}
-use Rattle.td_turns.specs.Turns.{Turn, Run, exchanges_of, journal_of, noted_of}
+use Rattle.td_session_runs.specs.Journals.{all_gave}
+use Rattle.td_session_runs.specs.Turns.{Turn, Run, exchanges_of, journal_of, noted_of}
 use Rattle.td_walk.specs.Peering.{AdmitsGifts}
 use Rattle.td_walk.specs.declared.trace.Address.{Address}
 use Rattle.td_session.specs.Headline.{Headline}
@@ -22,6 +22,6 @@ module _ (others : List Accepted → Type 0) (later : Marks → Marks → Type 0
     pub turns : List Turn
     pub run : Run others later home s turns u
     pub noted : journal ≡ journal_of turns
-    pub stream : Finishes (exchanges_of turns) end before after [] 0 0
+    pub stream : StreamFinishes (exchanges_of turns) end before after [] 0 0
     pub headline : Headline others later home s turns u
     pub gifts : AdmitsGifts (all_gave (noted_of turns))

@@ -1,9 +1,9 @@
 -- How a session stands between two messages.
 use Rattle.std.specs.Prelude.{ℕ, List, Option}
 use Rattle.td_lookup.specs.Scenes.{Scene}
-use Rattle.td_reply.specs.declared.entry.Entry.{Entry}
-use Rattle.td_serve.specs.Backends.{BackendSeen, scene_of}
-use Rattle.td_turns.specs.Turns.{Noted, Turn}
+use Rattle.td_servant.specs.declared.entry.Entry.{Entry}
+use Rattle.td_dispatch.specs.Backends.{BackendSeen, scene_of}
+use Rattle.td_session_runs.specs.Turns.{ServedRequest, Turn}
 use Rattle.td_walk.specs.declared.trace.Address.{Address}
 use Rattle.td_session.specs.Rooms.{Room}
 
@@ -24,7 +24,7 @@ abbrev pub stage_in : BackendSeen → Room → Stage
 stage_in seen room = stage room.home (scene_in seen room) room.journal
 
 -- a message that was served, what is noted of it, its answer, and how everything stands then
-abbrev pub turn_of : (message : List ℕ) → Option Noted → (reply : List ℕ) → Scene → Turn
+abbrev pub turn_of : (message : List ℕ) → Option ServedRequest → (reply : List ℕ) → Scene → Turn
 turn_of message noted reply after = record {
   message = message;
   request = noted;

@@ -1,21 +1,21 @@
 //! A message whose head is in the grammar: what it is answered with.
 
 ghost use Rattle.std.specs.Prelude.{◌≡◌, ◌<◌, ◌^◌, OnOk, OnErr, None};
-ghost use Rattle.td_serve.specs.Backends.{scene_of};
+ghost use Rattle.td_dispatch.specs.Backends.{scene_of};
 ghost use Rattle.td_session.specs.Serving.{ServesMessage, Stays};
 ghost use Rattle.td_session.specs.Stages.{stage_in, turn_of};
 ghost use Rattle.td_stream.specs.Heads.{HasHead, IsMessage};
 ghost use Rattle.td_stream.specs.declared.head.Head.TheVariants as spelled;
-ghost use Rattle.td_turns.specs.Turns.{ServesLocate};
+ghost use Rattle.td_session_runs.specs.Turns.{ServesLocate};
 
 use crate::request::answer_request;
 use crate::room::Room;
 use std::alloc::Global;
 use td_cdr::Memory;
+use td_dispatch::{Backend, Replies};
 use td_giop::Raw;
 use td_iter::Desk;
 use td_journal::Journal;
-use td_serve::{Backend, Replies};
 use td_stream::Head;
 
 /// Answers a message. Its reply stands in the room then.

@@ -10,9 +10,9 @@ ghost use Rattle.td_stream.specs.declared.head.Head.TheVariants as spelled;
 use crate::room::Room;
 use std::alloc::Global;
 use td_cdr::{Memory, Reader};
+use td_dispatch::{Backend, Replies, ReplyTo, serve_request};
 use td_giop::{Raw, RequestHead};
 use td_journal::Journal;
-use td_serve::{Backend, Replies, ReplyTo, serve_request};
 
 /// Serves a Request, and notes what came of it, in room that is taken before. Its reply stands in the room then.
 ///

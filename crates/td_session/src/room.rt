@@ -3,10 +3,10 @@
 use std::alloc::Global;
 use std::marker::Model;
 use td_cdr::Memory;
-use td_iter::{Desk, Entry as Kept, Item};
+use td_dispatch::Replies;
+use td_iter::{Desk, DeskEntry as Kept, Item};
 use td_journal::{Journal, KeptJournal};
-use td_reply::Entry;
-use td_serve::Replies;
+use td_servant::Entry;
 use td_walk::Address;
 
 /// What a session keeps beside what it stands on.
@@ -24,8 +24,8 @@ pub struct Room<J: Journal> {
 
 impl<J: Journal> Model for Room<J> {
     ghost use Rattle.std.specs.Coded.{codes};
-    ghost use Rattle.td_codes.specs.contracts.code.TypeCode as code;
-    ghost use Rattle.td_codes.specs.contracts.code.Value as value;
+    ghost use Rattle.td_typecode.specs.contracts.code.TypeCode as code;
+    ghost use Rattle.td_typecode.specs.contracts.code.Value as value;
     ghost use Rattle.td_objects.specs.References.{IsAddress};
     ghost use Rattle.td_session.specs.Rooms.{Room as TheRoom};
 
@@ -53,7 +53,7 @@ impl<J: Journal> Room<J> {
     ///
     /// # Errors
     ///
-    /// `Memory` for want of memory alone.
+    /// `Memory` only when out of memory.
     pub fn new(alloc: Global, home: Address) -> Result<Room<J>, Memory>
         requires { IsAddress home }
         ensures new { IfOk result (λ room. IsNew room) }

@@ -1,8 +1,8 @@
 //! A message is answered while replies are held: they go out before a peer is called.
 
 ghost use Rattle.std.specs.Prelude.{◌≡◌, ◌<◌, ◌^◌, OnOk, OnErr};
-ghost use Rattle.td_reply.specs.Linking.{peers_seen};
-ghost use Rattle.td_serve.specs.Backends.{backend_seen};
+ghost use Rattle.td_servant.specs.Linking.{peers_seen};
+ghost use Rattle.td_dispatch.specs.Backends.{backend_seen};
 ghost use Rattle.td_session.specs.Serving.{ServesMessage, Stays};
 ghost use Rattle.td_session.specs.Stages.{stage_in};
 ghost use Rattle.td_stream.specs.Heads.{HasHead, IsMessage};

@@ -2,8 +2,8 @@
 
 ghost use Rattle.std.specs.Prelude.{◌≡◌, ◌<◌, ◌^◌, OnOk, OnErr};
 ghost use Rattle.std.proofs.Common.{◌∙◌, refl};
-ghost use Rattle.td_reply.specs.Linking.{peers_seen};
-ghost use Rattle.td_serve.specs.Backends.{backend_seen};
+ghost use Rattle.td_servant.specs.Linking.{peers_seen};
+ghost use Rattle.td_dispatch.specs.Backends.{backend_seen};
 ghost use Rattle.td_session.specs.NumberLaws.{message-spends};
 ghost use Rattle.td_session.specs.Serving.{ServesMessage, Stays};
 ghost use Rattle.td_session.specs.Stages.{stage_in};
@@ -14,11 +14,11 @@ use crate::room::Room;
 use crate::sending::answer_sending;
 use std::alloc::Global;
 use td_cdr::Memory;
+use td_dispatch::BackendRef;
 use td_giop::Raw;
 use td_journal::Journal;
 use td_out::Words;
 use td_sending::SendingPeers;
-use td_serve::BackendRef;
 use td_stream::{Head, SendsHeld, Servant};
 use td_trader::Traders;
 use td_walk::Peers;
@@ -54,7 +54,7 @@ impl<'t, 'r, 'p, 'w, T: Traders, J: Journal, P: Peers, W: Words> Servant
         × T.same a.traders.now b.traders.now × P.same a.peers.now b.peers.now
         × W.same a.words.now b.words.now };
 
-    ghost told = { λ s. s.room.now.replies };
+    ghost content = { λ s. s.room.now.replies };
 
     ghost budget = { λ s. s.room.now.desk.1 };
 

@@ -1,8 +1,8 @@
 //! The session: its servant answers the messages of a stream until it ends.
 
 ghost use Rattle.std.specs.Prelude.{◌≡◌, ◌≤◌};
-ghost use Rattle.td_reply.specs.Linking.{peers_seen};
-ghost use Rattle.td_serve.specs.Backends.{backend_seen};
+ghost use Rattle.td_servant.specs.Linking.{peers_seen};
+ghost use Rattle.td_dispatch.specs.Backends.{backend_seen};
 ghost use Rattle.td_session.specs.Completeness.{Completes};
 ghost use Rattle.td_session.specs.Rooms.{IsNew};
 ghost use Rattle.td_session.specs.Sessions.{Serves};
@@ -21,7 +21,7 @@ use td_walk::Peers;
 /// Serves the messages of a source in order, and writes their replies to a sink, until the stream ends.
 ///
 /// Where the source is whole messages that a server can be sent, within a session's limits, and none of the
-/// outside fails, those before the first CloseConnection or MessageError are all served, or memory is wanted.
+/// outside fails, those before the first CloseConnection or MessageError are all served, or memory runs out.
 pub fn serve_connection<T: Traders, S: Source, K: Sink, P: Peers, W: Words, J: Journal>(
     alloc: Global,
     traders: &mut T,

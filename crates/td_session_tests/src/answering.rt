@@ -1,8 +1,8 @@
 //! Peers outside, by a script of a few words.
 
 ghost use Rattle.std.specs.Prelude.{IfOk, OnOk};
-ghost use Rattle.td_codes.specs.References.{reference};
-ghost use Rattle.td_codes.specs.Values.{any_value};
+ghost use Rattle.td_typecode.specs.References.{reference};
+ghost use Rattle.td_typecode.specs.Values.{any_value};
 ghost use Rattle.td_peers.specs.Scripts.{AreAllowed, IsAllowed};
 ghost use Rattle.td_walk.specs.Peering.{HasSmallOffers, HasWritableOffers};
 

@@ -1,5 +1,5 @@
-//! The client's program and a session: what the session writes for the bytes of the client's requests is what the client
-//! prints from.
+//! The client's program and a session: what the session writes for the bytes of the client's requests is what the
+//! client prints from.
 
 use crate::answering::evaluator;
 use crate::cities_file::cities;
@@ -8,7 +8,7 @@ use crate::serving::{WHOLE, served_noting, sink, source};
 use std::alloc::Global;
 use std::test::Fail;
 use td_cdr::{List, Memory, Octets};
-use td_client_run::client_run;
+use td_cli_program::client_run;
 use td_journal::PastJournal;
 use td_out::{MemSink, MemSource};
 use td_session::End;
@@ -221,8 +221,8 @@ fn the_client_drains_the_iterator_of_a_session(rt: HostRuntime) -> Result<(), Fa
     Ok(())
 }
 
-/// What the client prints with status 5 where the first connection gives these replies, and the second what a session of
-/// its own answers.
+/// What the client prints with status 5 where the first connection gives these replies, and the second what a session
+/// of its own answers.
 fn printed_elsewhere(
     alloc: Global,
     file: &[u8],
@@ -241,8 +241,8 @@ fn printed_elsewhere(
     }
 }
 
-/// Whether the client prints that the iterator is gone: it is asked at the host of its reference, over a connection whose
-/// session has made no iterator.
+/// Whether the client prints that the iterator is gone: it is asked at the host of its reference, over a connection
+/// whose session has made no iterator.
 fn is_gone_elsewhere(alloc: Global, file: &[u8], words: &[&str]) -> Result<bool, Memory> {
     let words = words_of(alloc, words)?;
     let query = requests(alloc, words.as_slice(), b"", 0)?;

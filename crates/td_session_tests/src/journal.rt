@@ -1,6 +1,6 @@
 //! What a session notes of its Requests, as words.
 
-use td_reply::Entry;
+use td_servant::Entry;
 use td_walk::TraceItem;
 
 /// The letter of a trader behind this one.

@@ -14,7 +14,7 @@ use std::process::Abort;
 use std::test::Fail;
 use td_cdr::Memory;
 use td_journal::{Journal, KeptJournal, PastJournal};
-use td_reply::Entry;
+use td_servant::Entry;
 
 /// A journal in which two entries are noted.
 fn noted<J: Journal + Drop>(alloc: Global) -> Result<J, Memory>

@@ -112,7 +112,7 @@ pub fn is_served(
 }
 
 /// Whether a session of this server is as the story says.
-pub fn is_told(alloc: Global, server: Result<Server, FileFault>, story: &Story) -> bool {
+pub fn is_content(alloc: Global, server: Result<Server, FileFault>, story: &Story) -> bool {
     match server {
         Ok(server) => is_played(alloc, server, story),
         Err(_) => false,
@@ -135,7 +135,7 @@ fn is_played(alloc: Global, server: Server, story: &Story) -> bool {
 
 /// Whether a session with the traders of its own file is as the story says; there are no peers.
 pub fn comes_true(alloc: Global, story: &Story) -> bool {
-    is_told(
+    is_content(
         alloc,
         opened_server(alloc, story.file.as_bytes(), nobody(alloc)),
         story,

@@ -13,7 +13,7 @@ use crate::opening::{Server, bounded_server, opened_server};
 use crate::plain::{CLOSED, ERROR, NO_OFFERS, PLAIN, RANDOM, UNANSWERED, VALUES};
 use crate::recursive::*;
 use crate::repository::{MASKED, TYPES};
-use crate::serving::{comes_true, is_told};
+use crate::serving::{comes_true, is_content};
 use crate::story::Story;
 use std::alloc::Global;
 use std::process::Abort;
@@ -111,14 +111,14 @@ fn sessions_are_closed(rt: HostRuntime) -> Result<(), Fail> {
 }
 
 /// Whether a session of a server with these peers is as the story says.
-fn is_told_among(
+fn is_content_among(
     alloc: Global,
     file: &[u8],
     peers: Result<MemPeers, Memory>,
     story: &Story,
 ) -> bool {
     match peers {
-        Ok(peers) => is_told(alloc, opened_server(alloc, file, peers), story),
+        Ok(peers) => is_content(alloc, opened_server(alloc, file, peers), story),
         Err(_) => false,
     }
 }
@@ -128,8 +128,8 @@ fn is_told_among(
 fn three_cities(rt: HostRuntime) -> Result<(), Fail> {
     let alloc = rt.alloc();
     let file = cities(alloc)?;
-    assert!(rt; is_told_among(alloc, file.as_slice(), evaluator(alloc), &CITIES));
-    assert!(rt; is_told_among(alloc, file.as_slice(), Ok(nobody(alloc)), &CITIES_ALONE));
+    assert!(rt; is_content_among(alloc, file.as_slice(), evaluator(alloc), &CITIES));
+    assert!(rt; is_content_among(alloc, file.as_slice(), Ok(nobody(alloc)), &CITIES_ALONE));
     Ok(())
 }
 
@@ -138,7 +138,7 @@ fn three_cities(rt: HostRuntime) -> Result<(), Fail> {
 fn a_trader_outside(rt: HostRuntime) -> Result<(), Fail> {
     let alloc = rt.alloc();
     assert!(rt;
-        is_told_among(
+        is_content_among(
             alloc,
             OUTSIDE.file.as_bytes(),
             trader_outside(alloc),
@@ -164,8 +164,8 @@ fn few(alloc: Global, ring: u32, changes: u64) -> Result<Server, FileFault>
 #[test]
 fn small_bounds(rt: HostRuntime) -> Result<(), Fail> {
     let alloc = rt.alloc();
-    assert!(rt; is_told(alloc, few(alloc, 8, 4), &FEW_CHANGES));
-    assert!(rt; is_told(alloc, few(alloc, 2, 100), &MARKS_OF_TWO));
-    assert!(rt; is_told(alloc, few(alloc, 3, 100), &MARKS_OF_THREE));
+    assert!(rt; is_content(alloc, few(alloc, 8, 4), &FEW_CHANGES));
+    assert!(rt; is_content(alloc, few(alloc, 2, 100), &MARKS_OF_TWO));
+    assert!(rt; is_content(alloc, few(alloc, 3, 100), &MARKS_OF_THREE));
     Ok(())
 }

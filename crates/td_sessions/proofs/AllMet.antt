@@ -6,12 +6,12 @@ use Rattle.td_cell.specs.declared.book.Book.{Ghosts}
 use Rattle.td_cell.specs.declared.cell.Cell.{Cell}
 use Rattle.td_cell.specs.declared.pass.Pass.{Pass}
 use Rattle.td_cell.specs.declared.pass.View.{View as Knowledge}
-use Rattle.td_group.specs.Grouping.{IsFresh, Meets, SplitsOff, are_met}
+use Rattle.td_group.specs.Grouping.{IsPutIn, MeetsPass, SplitsOff, are_met}
 use Rattle.td_group.specs.Rows.{Rows}
 use Rattle.td_server.proofs.Flags.{AreOut, Keeps, Meet, Met, Split, Splits, Stays, Waits, none-left, place_of}
 use Rattle.td_server.specs.Rows.{Rows as Beside}
 use Rattle.td_trader.specs.PlainTraders.{PlainTrader}
-use Rattle.td_workers.specs.Works.{Working}
+use Rattle.td_workers.specs.JobSources.{RunsJobs}
 
 -- ---- the flags of one opening pass
 
@@ -62,7 +62,7 @@ module _ {A R : Type 0} {g : Ghosts PlainTrader A R} where
     splits_flags ps ts qs r.1,
   )
 
-  pub meets_flags : (ps ts qs : List (Pass PlainTrader A R g)) → Rows Meets ps ts qs
+  pub meets_flags : (ps ts qs : List (Pass PlainTrader A R g)) → Rows MeetsPass ps ts qs
       → Beside Met (map flags_of ps) (map number_of ts) (map flags_of qs)
   meets_flags [] [] [] r = tt
   meets_flags [] [] (q ∷ qs) r = absurd r
@@ -83,12 +83,12 @@ module _ {A R : Type 0} {g : Ghosts PlainTrader A R} where
 
   -- where each pass was met at first, each is met in the end
   pub all_are_met : (ps qs : List (Pass PlainTrader A R g)) → are_met ps ≡ true
-      → Working Splits Stays Keeps place_of Meet true (map flags_of ps) 0 [] (map flags_of qs) → are_met qs ≡ true
+      → RunsJobs Splits Stays Keeps place_of Meet true (map flags_of ps) 0 [] (map flags_of qs) → are_met qs ≡ true
   all_are_met ps qs e w = met_from qs (none-left w (out_from ps e))
 
   -- nothing was split off the opening pass of a new cell
   pub fresh_are_met : (os : List PlainTrader) (cs : List (Cell PlainTrader A R)) (ps : List (Pass PlainTrader A R g))
-      → Rows IsFresh os cs ps → are_met ps ≡ true
+      → Rows IsPutIn os cs ps → are_met ps ≡ true
   fresh_are_met [] [] [] r = refl
   fresh_are_met [] [] (p ∷ ps) r = absurd r
   fresh_are_met [] (c ∷ cs) ps r = absurd r

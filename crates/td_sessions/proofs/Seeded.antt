@@ -4,8 +4,8 @@ use Rattle.td_cdr.specs.Marks.{Marks}
 use Rattle.td_iter.specs.Desks.{Live}
 use Rattle.td_lookup.specs.Scenes.{Scene, scene}
 use Rattle.td_register.specs.declared.history.Accepted.{Accepted}
-use Rattle.td_reply.specs.Linking.{PeersSeen, peers_seen}
-use Rattle.td_reply.specs.declared.entry.Entry.{Entry}
+use Rattle.td_servant.specs.Linking.{PeersSeen, peers_seen}
+use Rattle.td_servant.specs.declared.entry.Entry.{Entry}
 use Rattle.td_stream.specs.declared.end.End.{End}
 use Rattle.td_stream.specs.Outside.{Outside}
 use Rattle.td_session.specs.Sessions.{Serves}

@@ -7,14 +7,14 @@ use Rattle.std.proofs.Crossing.{crosses}
 use Rattle.td_cdr.proofs.boxed.Boxed.TheSendSync as boxed_cross
 use Rattle.td_cdr.proofs.list.List.TheSendSync as list_cross
 use Rattle.td_cdr.proofs.text.Text.TheSendSync as text_cross
-use Rattle.td_codes.proofs.reference.Ior.TheSendSync as ior_cross
+use Rattle.td_typecode.proofs.reference.Ior.TheSendSync as ior_cross
 use Rattle.td_iter.specs.contracts.desk.Desk as desk
 use Rattle.td_iter.specs.contracts.item.Item as item
 use Rattle.td_journal.specs.declared.journal.Journal.{Ghosts}
 use Rattle.td_sessions.specs.contracts.session.SessionEnd as session_end
 use Rattle.td_sessions.specs.contracts.session.TraderPass as trader_pass
 use Rattle.td_group.proofs.Sends.{any_send, group_pass_field, offer_send}
-use Rattle.td_serve.proofs.replies.Replies.TheSendSync as replies_cross
+use Rattle.td_dispatch.proofs.replies.Replies.TheSendSync as replies_cross
 use Rattle.td_stream.proofs.end.End.TheSendSync as end_cross
 use Rattle.td_session.specs.contracts.room.Room as room
 use Rattle.td_session.specs.contracts.room.Room.TheInside as room_inside

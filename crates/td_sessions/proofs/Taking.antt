@@ -2,14 +2,14 @@
 use Rattle.std.proofs.Common.{◌≡◌, ◌∙◌, ℕ, List, [], ◌∷◌, map, Some, IsSome, refl, sym, ap, subst}
 use Rattle.td_cell.specs.Lists.{Rises, itself}
 use Rattle.td_cell.specs.OwnMarks.{number_of}
-use Rattle.td_cell.specs.Passes.{knowledge, opened}
+use Rattle.td_cell.specs.Passes.{knowledge, opened_book}
 use Rattle.td_cell.specs.declared.book.Book.{Ghosts}
 use Rattle.td_cell.specs.declared.cell.Cell.{Cell}
 use Rattle.td_cell.specs.declared.pass.Mark.{Mark}
 use Rattle.td_cell.specs.declared.pass.Pass.{Pass}
 use Rattle.td_cell.specs.declared.pass.View.{View as Knowledge}
 use Rattle.td_group.proofs.Seen.{before_one, one_is, some_one}
-use Rattle.td_group.specs.Grouping.{IsClosed, IsFresh, Meets, SplitsOff}
+use Rattle.td_group.specs.Grouping.{IsTakenOut, IsPutIn, MeetsPass, SplitsOff}
 use Rattle.td_group.specs.Rows.{Rows}
 use Rattle.td_group.specs.Seeing.{seen_by, trader_of, view_by}
 use Rattle.td_server.specs.Rows.{Rows as Beside}
@@ -80,7 +80,7 @@ module _ {A R : Type 0} {g : Ghosts PlainTrader A R} where
       ap (λ (v : View). v ∷ map seen_by qs) (split_keeps p t q r.0)
       ∙ ap (λ (l : List View). seen_by p ∷ l) (splits_keep ps ts qs r.1)
 
-  join_seen : (p t q : Pass PlainTrader A R g) → Meets p t q → Joins (seen_by p) (seen_by t) (seen_by q)
+  join_seen : (p t q : Pass PlainTrader A R g) → MeetsPass p t q → Joins (seen_by p) (seen_by t) (seen_by q)
   join_seen p t q m =
       let book : PlainTrader = m.learned.book in
       let same : trader_of q ≡ book =
@@ -102,7 +102,7 @@ module _ {A R : Type 0} {g : Ghosts PlainTrader A R} where
       }
 
   -- what a session has seen and done is taken in
-  pub joins_all : (ps ts qs : List (Pass PlainTrader A R g)) → Rows Meets ps ts qs
+  pub joins_all : (ps ts qs : List (Pass PlainTrader A R g)) → Rows MeetsPass ps ts qs
       → Beside Joins (map seen_by ps) (map seen_by ts) (map seen_by qs)
   joins_all [] [] [] r = tt
   joins_all [] [] (q ∷ qs) r = absurd r
@@ -114,7 +114,7 @@ module _ {A R : Type 0} {g : Ghosts PlainTrader A R} where
   -- ---- the opening and the end
 
   pub fresh_views : (os : List PlainTrader) (cs : List (Cell PlainTrader A R)) (ps : List (Pass PlainTrader A R g))
-      → Rows IsFresh os cs ps → map seen_by ps ≡ opened_views os
+      → Rows IsPutIn os cs ps → map seen_by ps ≡ opened_views os
   fresh_views [] [] [] r = refl
   fresh_views [] [] (p ∷ ps) r = absurd r
   fresh_views [] (c ∷ cs) ps r = absurd r
@@ -129,18 +129,18 @@ module _ {A R : Type 0} {g : Ghosts PlainTrader A R} where
 
   -- the cells were opened with these traders
   pub opened_all : (os : List PlainTrader) (cs : List (Cell PlainTrader A R)) (ps : List (Pass PlainTrader A R g))
-      → Rows IsFresh os cs ps → map opened cs ≡ os
+      → Rows IsPutIn os cs ps → map opened_book cs ≡ os
   opened_all [] [] [] r = refl
   opened_all [] [] (p ∷ ps) r = absurd r
   opened_all [] (c ∷ cs) ps r = absurd r
   opened_all (o ∷ os) [] ps r = absurd r
   opened_all (o ∷ os) (c ∷ cs) [] r = absurd r
   opened_all (o ∷ os) (c ∷ cs) (p ∷ ps) r =
-      ap (λ (t : PlainTrader). t ∷ map opened cs) r.0.opened_is
+      ap (λ (t : PlainTrader). t ∷ map opened_book cs) r.0.opened_is
       ∙ ap (λ (l : List PlainTrader). o ∷ l) (opened_all os cs ps r.1)
 
-  close_seen : (c : Cell PlainTrader A R) (p : Pass PlainTrader A R g) (t : PlainTrader) → IsClosed c p t
-      → Closes (opened c) (seen_by p) t
+  close_seen : (c : Cell PlainTrader A R) (p : Pass PlainTrader A R g) (t : PlainTrader) → IsTakenOut c p t
+      → Closes (opened_book c) (seen_by p) t
   close_seen c p t m = record {
     since = m.since;
     seen = seen_follows (trader_of p) t (knowledge p).own [] (map number_of (knowledge p).own_marks) [] m.seen;
@@ -148,7 +148,7 @@ module _ {A R : Type 0} {g : Ghosts PlainTrader A R} where
   }
 
   pub closes_all : (cs : List (Cell PlainTrader A R)) (ps : List (Pass PlainTrader A R g)) (ts : List PlainTrader)
-      → Rows IsClosed cs ps ts → Rows Closes (map opened cs) (map seen_by ps) ts
+      → Rows IsTakenOut cs ps ts → Rows Closes (map opened_book cs) (map seen_by ps) ts
   closes_all [] [] [] r = tt
   closes_all [] [] (t ∷ ts) r = absurd r
   closes_all [] (p ∷ ps) ts r = absurd r

@@ -1,4 +1,4 @@
-pub mod HallLaws
+pub mod JobSourceLaws
 pub mod Sessions
 pub mod Whole
 pub mod Worlds

@@ -6,12 +6,13 @@ use Rattle.td_cell.specs.Lists.{Rises, itself, merge}
 use Rattle.td_fed.specs.Trails.{own_at}
 use Rattle.td_lookup.specs.Scenes.{Scene, scene}
 use Rattle.td_register.specs.declared.history.Accepted.{Accepted}
-use Rattle.td_reply.specs.Linking.{peers_seen}
-use Rattle.td_reply.specs.declared.entry.Entry.{Entry}
-use Rattle.td_server.specs.Kinds.{Kind}
+use Rattle.td_servant.specs.Linking.{peers_seen}
+use Rattle.td_servant.specs.declared.entry.Entry.{Entry}
+use Rattle.td_server.specs.Kinds.{ServerKind}
 use Rattle.td_server.specs.Rows.{Rows}
-use Rattle.td_server.specs.Sessions.{Begun as BegunOf, Ended as EndedOf, HandsSome as HandsSomeOf}
-use Rattle.td_server.specs.Sessions.{Seeded as SeededWords, Serving as ServingOf, Stand as StandOf, Told as ToldOf}
+use Rattle.td_server.specs.Sessions.{SessionStart as BegunOf, SessionResult as EndedOf, HandsSome as HandsSomeOf}
+use Rattle.td_server.specs.Sessions.{WordsBySeeding as SeededWords, ServesSession as ServingOf, ServerState as StandOf}
+use Rattle.td_server.specs.Sessions.{HandedSessions as ToldOf}
 use Rattle.td_stream.specs.declared.end.End.{End}
 use Rattle.td_stream.specs.Outside.{Outside}
 use Rattle.td_session.specs.Sessions.{Serves}
@@ -71,7 +72,7 @@ pub record ServesOver (others : List Accepted → Type 0) (later : Marks → Mar
       scene_after journal end before after
 
 -- what is kept of a session: how it ended, and what was noted of its Requests
-pub record Kept : Type 0 where
+pub record SessionRecord : Type 0 where
   pub end : End
   pub journal : List Entry
 
@@ -79,12 +80,12 @@ pub record Kept : Type 0 where
 
 -- Its sessions share traders. Each is given the address where they are reached, whatever others do to the traders
 -- meanwhile by changes that can be written, and in the end the traders are handed on.
-abbrev pub trading : Kind
+abbrev pub trading : ServerKind
 trading = record {
   World = List View;
   Given = Address;
   Outside = Outside;
-  Kept = Kept;
+  Kept = SessionRecord;
   Closed = Solo;
   Thing = ℕ;
   bare = map bare;
@@ -98,28 +99,29 @@ trading = record {
 -- ---- its sessions
 
 -- the random words that come after each seeding
-abbrev pub Seeded : Type 0
-Seeded = SeededWords
+abbrev pub WordsBySeeding : Type 0
+WordsBySeeding = SeededWords
 
 -- the sessions that were handed on, in order, and the traders, once they were
-abbrev pub Told : Type 0 → Type 0
-Told X = ToldOf trading X
+abbrev pub HandedSessions : Type 0 → Type 0
+HandedSessions X = ToldOf trading X
 
 -- these sessions were handed on, and no traders
-abbrev pub HandsSome : {X : Type 0} → (told after : Option (Told X)) → Type 0
+abbrev pub HandsSome : {X : Type 0} → (content after : Option (HandedSessions X)) → Type 0
 HandsSome {X} = HandsSomeOf {k = trading} {X = X}
 
 -- a session that begins, and one that has ended
-abbrev pub Begun : Type 0 → Type 0
-Begun X = BegunOf trading X
+abbrev pub SessionStart : Type 0 → Type 0
+SessionStart X = BegunOf trading X
 
-abbrev pub Ended : Type 0 → Type 0
-Ended X = EndedOf trading X
+abbrev pub SessionResult : Type 0 → Type 0
+SessionResult X = EndedOf trading X
 
 -- the session was served, whatever others did to the traders meanwhile by changes that can be written
-abbrev pub Serving : {X : Type 0} → (X → Outside) → (X → Seeded) → Begun X → Ended X → Type 0
-Serving {X} = ServingOf {k = trading} {X = X}
+abbrev pub ServesSession : {X : Type 0} → (X → Outside) → (X → WordsBySeeding) → SessionStart X
+    → SessionResult X → Type 0
+ServesSession {X} = ServingOf {k = trading} {X = X}
 
 -- between two visitors
-abbrev pub Stand : Type 0 → Type 0
-Stand X = StandOf trading X
+abbrev pub ServerState : Type 0 → Type 0
+ServerState X = StandOf trading X

@@ -2,7 +2,7 @@
 
 ghost use Rattle.std.specs.Prelude.{◌≡◌, map, IfOk};
 ghost use Rattle.std.specs.List.{AllZip};
-ghost use Rattle.td_group.specs.Grouping.{AreOpening, IsOut, Meets, SplitsOff};
+ghost use Rattle.td_group.specs.Grouping.{AreOpening, IsOut, MeetsPass, SplitsOff};
 ghost use Rattle.td_group.specs.Rows.{Rows};
 ghost use Rattle.td_group.specs.Seeing.{seen_by};
 ghost use Rattle.td_objects.specs.References.{IsAddress};
@@ -17,7 +17,7 @@ use std::sync::Wait;
 use td_accept::{ClientSink, ClientSource, ClientWire, Limited, Visitor};
 use td_cdr::{Memory, Twin};
 use td_cell::Pass;
-use td_group::{Group, GroupPass, Stall};
+use td_group::{Group, GroupPass, SharedTrader};
 use td_journal::Journal;
 use td_out::Words;
 use td_server::Service;
@@ -33,7 +33,7 @@ pub(crate) struct TraderService<'e, 'g, N, R> {
     pub(crate) home: &'g Address,
     pub(crate) ended: &'e mut N,
     /// The opening passes of the group.
-    pub(crate) passes: Vec<Pass<Stall>>,
+    pub(crate) passes: Vec<Pass<SharedTrader>>,
 }
 
 impl<'e, 'g, S, K, L, W, N, R> Service<
@@ -70,7 +70,7 @@ where
 
     ghost seen = { λ a. map seen_by a.passes.items };
 
-    ghost told = { λ a. N.told a.ended.now };
+    ghost content = { λ a. N.content a.ended.now };
 
     ghost goes = { λ a b. (a.ended.ghost_name ≡ b.ended.ghost_name) × (b.group ≡ a.group)
         × (b.home ≡ a.home) };
@@ -81,7 +81,7 @@ where
 
     ghost begins = { λ a p b. Rows SplitsOff a.passes.items p.pass.passes.items b.passes.items };
 
-    ghost ends = { λ a q b. Rows Meets a.passes.items q.passes.items b.passes.items };
+    ghost ends = { λ a q b. Rows MeetsPass a.passes.items q.passes.items b.passes.items };
 
     ghost use Rattle.std.proofs.Common.{refl, ap, ◌∙◌};
     ghost use Rattle.td_sessions.specs.Worlds.{trading_laws};

@@ -1,14 +1,14 @@
 //! The sessions of all visitors over a group of traders.
 
 ghost use Rattle.std.specs.Prelude.{◌≡◌, ◌≤◌, length, map, true, IfErr, IfOk, OnErr, OnOk};
-ghost use Rattle.td_cell.specs.Passes.{opened};
+ghost use Rattle.td_cell.specs.Passes.{opened_book};
 ghost use Rattle.td_group.specs.Grouping.{AreOpening, are_met};
 ghost use Rattle.td_group.specs.Seeing.{seen_by};
 ghost use Rattle.td_objects.specs.References.{IsAddress};
 ghost use Rattle.td_stream.specs.Outside.{outside};
 ghost use Rattle.td_server.specs.Sessions.{StopsSo};
 ghost use Rattle.td_sessions.specs.Sessions.{HandsSome};
-ghost use Rattle.td_sessions.specs.Whole.{HandsOn, ServesAll, ServesFrom, Whole, opened_views};
+ghost use Rattle.td_sessions.specs.Whole.{HandsOn, ServesSessions, ServesFrom, Whole, opened_views};
 
 use crate::ended::Ended;
 use crate::service::TraderService;
@@ -18,7 +18,7 @@ use std::thread::Threads;
 use td_accept::{Accept, Gate, Visitor};
 use td_cdr::{Memory, Octets};
 use td_cell::Pass;
-use td_group::{Group, Stall};
+use td_group::{Group, SharedTrader};
 use td_server::serve_all;
 use td_trader::Solo;
 use td_walk::Address;
@@ -32,10 +32,10 @@ use td_workers::Stop;
 /// # Errors
 ///
 /// - `Failed` only where the acceptor's count of faults rose.
-/// - `Memory` for want of memory.
+/// - `Memory` when out of memory.
 ///
 /// Some sessions may have been handed on before, but no traders.
-#[tactic(auto, using(crate::specs::HallLaws::hands_none))]
+#[tactic(auto, using(crate::specs::JobSourceLaws::hands_none))]
 pub fn serve_group<
     A: Accept,
     G: Gate,
@@ -53,11 +53,11 @@ pub fn serve_group<
 ) -> Result<(), Stop>
     requires address { IsAddress home.now }
     requires seed { length seed.now ≡ 32 }
-    ensures serves { OnOk result (ServesAll
+    ensures serves { OnOk result (ServesSessions
         (λ v. outside (A.S.left v.source) (A.S.faults v.source) (A.K.written v.sink)
         (A.K.faults v.sink)) (λ v. A.W.word_after v.words) home.now seed.now solo.traders.items
-        (A.told accept.old) (N.told ended.old) (A.told accept.new) (N.told ended.new)) }
-    ensures handed { OnErr result (HandsSome (N.told ended.old) (N.told ended.new)) }
+        (A.content accept.old) (N.content ended.old) (A.content accept.new) (N.content ended.new)) }
+    ensures handed { OnErr result (HandsSome (N.content ended.old) (N.content ended.new)) }
     ensures later { A.faults accept.old ≤ A.faults accept.new }
     ensures stops { IfErr result (λ why. StopsSo why (A.faults accept.old) (A.faults accept.new)) }
 {
@@ -71,7 +71,7 @@ pub fn serve_group<
 }
 
 /// The same where the acceptor was bound.
-#[tactic(auto, using(crate::specs::HallLaws::hands_none))]
+#[tactic(auto, using(crate::specs::JobSourceLaws::hands_none))]
 fn serve_bound<
     A: Accept,
     G: Gate,
@@ -95,12 +95,12 @@ fn serve_bound<
         (A.K.faults v.sink)) (λ v. A.W.word_after v.words) solo.traders.items (record {
           given = home.now;
           seed = seed.now;
-          door = A.told accept.old;
-          told = N.told ended.old;
+          door = A.content accept.old;
+          content = N.content ended.old;
           world = opened_views solo.traders.items;
         })
-        (A.told accept.new) (N.told ended.new)) }
-    ensures handed { OnErr result (HandsSome (N.told ended.old) (N.told ended.new)) }
+        (A.content accept.new) (N.content ended.new)) }
+    ensures handed { OnErr result (HandsSome (N.content ended.old) (N.content ended.new)) }
     ensures later { A.faults accept.old ≤ A.faults accept.new }
     ensures stops { IfErr result (λ why. StopsSo why (A.faults accept.old) (A.faults accept.new)) }
 {
@@ -113,10 +113,10 @@ fn serve_bound<
 }
 
 /// Opens a group of traders, of which no session goes on.
-fn open_group(alloc: Global, solo: Solo) -> Result<(Group, Vec<Pass<Stall>>), Memory>
+fn open_group(alloc: Global, solo: Solo) -> Result<(Group, Vec<Pass<SharedTrader>>), Memory>
     ensures opening { IfOk result (λ r. AreOpening r.0.cells.items r.1.items) }
     ensures met { IfOk result (λ r. are_met r.1.items ≡ true) }
-    ensures opened { IfOk result (λ r. map opened r.0.cells.items ≡ solo.traders.items) }
+    ensures opened { IfOk result (λ r. map opened_book r.0.cells.items ≡ solo.traders.items) }
     ensures seen { IfOk result (λ r. map seen_by r.1.items ≡ opened_views solo.traders.items) }
 {
     match Group::open(alloc, solo) {
@@ -137,7 +137,7 @@ fn serve_opened<
     home: &Address,
     seed: &Octets,
     group: Group,
-    passes: Vec<Pass<Stall>>,
+    passes: Vec<Pass<SharedTrader>>,
     accept: &mut A,
     gate: &G,
     ended: &mut N,
@@ -149,15 +149,16 @@ fn serve_opened<
     requires seed { length seed.now ≡ 32 }
     ensures serves { OnOk result (ServesFrom
         (λ v. outside (A.S.left v.source) (A.S.faults v.source) (A.K.written v.sink)
-        (A.K.faults v.sink)) (λ v. A.W.word_after v.words) (map opened group.cells.items) (record {
+        (A.K.faults v.sink)) (λ v. A.W.word_after v.words) (map opened_book group.cells.items)
+        (record {
           given = home.now;
           seed = seed.now;
-          door = A.told accept.old;
-          told = N.told ended.old;
+          door = A.content accept.old;
+          content = N.content ended.old;
           world = map seen_by passes.items;
         })
-        (A.told accept.new) (N.told ended.new)) }
-    ensures handed { OnErr result (HandsSome (N.told ended.old) (N.told ended.new)) }
+        (A.content accept.new) (N.content ended.new)) }
+    ensures handed { OnErr result (HandsSome (N.content ended.old) (N.content ended.new)) }
     ensures later { A.faults accept.old ≤ A.faults accept.new }
     ensures stops { IfErr result (λ why. StopsSo why (A.faults accept.old) (A.faults accept.new)) }
 {
@@ -214,18 +215,18 @@ fn serve_visitors<
         (A.K.faults v.sink)) (λ v. A.W.word_after v.words) (record {
           given = service.entry.home.now;
           seed = seed.now;
-          door = A.told accept.old;
-          told = N.told service.entry.ended.now;
+          door = A.content accept.old;
+          content = N.content service.entry.ended.now;
           world = map seen_by service.entry.passes.items;
         })
         (record {
           given = service.entry.home.now;
           seed = seed.now;
-          door = A.told accept.new;
-          told = N.told result.1.ended.now;
+          door = A.content accept.new;
+          content = N.content result.1.ended.now;
           world = map seen_by result.1.passes.items;
         })) }
-    ensures handed { HandsSome (N.told service.entry.ended.now) (N.told result.1.ended.now) }
+    ensures handed { HandsSome (N.content service.entry.ended.now) (N.content result.1.ended.now) }
     ensures later { A.faults accept.old ≤ A.faults accept.new }
     ensures stops { IfErr result.0 (λ why. StopsSo why (A.faults accept.old)
         (A.faults accept.new)) }
@@ -234,11 +235,12 @@ fn serve_visitors<
 }
 
 /// Takes the traders out of a group all of whose sessions have ended, and hands them on.
-fn hand_on<V, N: Ended<V>>(group: Group, passes: Vec<Pass<Stall>>, ended: &mut N)
+fn hand_on<V, N: Ended<V>>(group: Group, passes: Vec<Pass<SharedTrader>>, ended: &mut N)
     requires opening { AreOpening group.cells.items passes.items }
     requires met { are_met passes.items ≡ true }
-    ensures { HandsOn (map opened group.cells.items) (map seen_by passes.items) (N.told ended.old)
-        (N.told ended.new) }
+    ensures { HandsOn (map opened_book group.cells.items) (map seen_by passes.items)
+        (N.content ended.old)
+        (N.content ended.new) }
 {
     match group.close(passes) {
         Ok(solo) => ended.group(solo),

@@ -10,24 +10,26 @@ use Rattle.td_cdr.specs.Marks.{In, Later}
 use Rattle.td_fed.specs.Trails.{own_at, own_in}
 use Rattle.td_group.specs.Rows.{Rows}
 use Rattle.td_lookup.specs.Scenes.{scene}
-use Rattle.td_reply.specs.Linking.{peers_seen}
-use Rattle.td_reply.specs.declared.entry.Entry.{Entry}
+use Rattle.td_servant.specs.Linking.{peers_seen}
+use Rattle.td_servant.specs.declared.entry.Entry.{Entry}
 use Rattle.td_stream.specs.Outside.{Outside}
-use Rattle.td_sessions.specs.Sessions.{Begun, Closes, Continues, Ended, Seeded, Serving, Stand, Told}
+use Rattle.td_sessions.specs.Sessions.{SessionStart, Closes, Continues, SessionResult, WordsBySeeding, ServesSession}
+use Rattle.td_sessions.specs.Sessions.{ServerState, HandedSessions}
 use Rattle.td_server.specs.Whole.{Every}
-use Rattle.td_sessions.specs.Whole.{AreApart, BeginsAfter, HasChanged, ServesAll, Visit, beginning, opened_views}
+use Rattle.td_sessions.specs.Whole.{AreApart, BeginsAfter, HasChanged, ServesSessions, Visit, server_start}
+use Rattle.td_sessions.specs.Whole.{opened_views}
 use Rattle.td_sessions_laws.proofs.OneSession.{IsSafe, IsSomewhere, all-safe, all-somewhere}
 use Rattle.td_sessions_laws.proofs.Places.{Each, IsApart, IsOnce, apart-both, every-both, every-here, flat-either}
 use Rattle.td_sessions_laws.proofs.Places.{flat-first, flat-second, once-in}
 use Rattle.td_sessions_laws.proofs.Views.{IsThere, SeenLast, as-many, bare-own, closes-at, front-of}
 use Rattle.td_sessions_laws.proofs.Views.{has-trader, opened-own, opening-seen}
-use Rattle.td_sessions_laws.specs.OneHistory.{AreOfSessions, EntriesAreOfSessions, IsKept, IsMadeOnce}
+use Rattle.td_sessions_laws.specs.OneHistory.{AreOfSessions, EntriesAreOfSessions, IsInHistory, IsMadeOnce}
 use Rattle.td_sessions_laws.specs.OneHistory.{MakesEntry, SessionRequest, all_requests, noted_by, request_in}
 use Rattle.td_trader.specs.Admitted.{AreAdmitted}
 use Rattle.td_trader.specs.PlainTraders.{PlainTrader}
 use Rattle.td_trader.specs.Worlds.{View}
-use Rattle.td_turns.specs.Journals.{all_places_in, is_accepted, places_in}
-use Rattle.td_turns.specs.Turns.{Noted, noted_of}
+use Rattle.td_session_runs.specs.Journals.{all_places_in, is_accepted, places_in}
+use Rattle.td_session_runs.specs.Turns.{ServedRequest, noted_of}
 use Rattle.td_walk.specs.declared.trace.Address.{Address}
 
 -- ---- the Requests of one session, with its number
@@ -42,18 +44,18 @@ IsSafeAt opened closed k p =
     (place : ℕ) → In place (places_in k p.request)
     → (length opened.history ≤ place) × MakesEntry closed.history k place p.request
 
-requests-places : (k session : ℕ) (ns : List Noted)
+requests-places : (k session : ℕ) (ns : List ServedRequest)
     → flat_map (places_of k) (map (request_in session) ns) ≡ all_places_in k ns
 requests-places k session [] = refl
 requests-places k session (n ∷ ns) = ap (λ (l : List ℕ). places_in k n ++ l) (requests-places k session ns)
 
 module _ (opened closed : PlainTrader) (k session : ℕ) where
-  requests-kept : (ns : List Noted) → Each (IsSafe opened closed k) ns
+  requests-kept : (ns : List ServedRequest) → Each (IsSafe opened closed k) ns
       → Every (IsSafeAt opened closed k) (map (request_in session) ns)
   requests-kept [] h = tt
   requests-kept (n ∷ ns) h = (h.0.stays, requests-kept ns h.1)
 
-  requests-apart : (ns : List Noted) → Each (IsSafe opened closed k) ns
+  requests-apart : (ns : List ServedRequest) → Each (IsSafe opened closed k) ns
       → Each (IsApart (places_of k)) (map (request_in session) ns)
   requests-apart [] h = tt
   requests-apart (n ∷ ns) h = (
@@ -64,12 +66,12 @@ module _ (opened closed : PlainTrader) (k session : ℕ) where
 
 -- ---- of all sessions
 
-module _ {X : Type 0} (outside_of : X → Outside) (seeded : X → Seeded) (opened closed : PlainTrader) (k : ℕ) where
+module _ {X : Type 0} (outside_of : X → Outside) (seeded : X → WordsBySeeding) (opened closed : PlainTrader) (k : ℕ) where
   abbrev Served : List (Visit X) → Type 0
-  Served visits = Every (λ (v : Visit X). Serving outside_of seeded v.begun v.ended) visits
+  Served visits = Every (λ (v : Visit X). ServesSession outside_of seeded v.begun v.ended) visits
 
   -- a session's changes of trader k are those of its Requests, and these are safe
-  record IsRight (own : List ℕ) (ns : List Noted) : Type 0 where
+  record IsRight (own : List ℕ) (ns : List ServedRequest) : Type 0 where
     pub own_is : own ≡ all_places_in k ns
     pub safe : Each (IsSafe opened closed k) ns
 
@@ -90,7 +92,7 @@ module _ {X : Type 0} (outside_of : X → Outside) (seeded : X → Seeded) (open
       flat-second (places_of k) place (map (request_in v.begun.number) (noted_of each.0.serves.turns))
       (all_requests outside_of seeded vs each.1) (changed-requested place vs each.1 r.1 h)
 
-  requests-own : (place : ℕ) (v : Visit X) (ns : List Noted) → IsRight (own_at v.ended.last k) ns
+  requests-own : (place : ℕ) (v : Visit X) (ns : List ServedRequest) → IsRight (own_at v.ended.last k) ns
       → In place (flat_map (places_of k) (map (request_in v.begun.number) ns)) → In place (own_at v.ended.last k)
   requests-own place v ns r h =
       subst (λ (l : List ℕ). In place l) (requests-places k v.begun.number ns ∙ sym r.own_is) h
@@ -151,10 +153,10 @@ all-every P f [] h = tt
 all-every P f (x ∷ xs) h =
     (All-head P (f x) (map f xs) h, all-every P f xs (All-tail P (f x) (map f xs) h))
 
-module _ {X : Type 0} (outside_of : X → Outside) (seeded : X → Seeded) (start : Stand X) (traders : List PlainTrader)
+module _ {X : Type 0} (outside_of : X → Outside) (seeded : X → WordsBySeeding) (start : ServerState X) (traders : List PlainTrader)
     (starts : start.world ≡ opened_views traders) (world : List View) (opened closed : PlainTrader) (k : ℕ)
     (is : slice_get traders k ≡ Some opened) (seen_last : SeenLast opened (slice_get world k) closed) where
-  one-right : (b : Begun X) (e : Ended X) (p : Serving outside_of seeded b e) → BeginsAfter start b
+  one-right : (b : SessionStart X) (e : SessionResult X) (p : ServesSession outside_of seeded b e) → BeginsAfter start b
       → AllZip Continues e.last world
       → IsRight outside_of seeded opened closed k (own_at e.last k) (noted_of p.serves.turns)
   one-right b e p begins seen =
@@ -175,7 +177,7 @@ module _ {X : Type 0} (outside_of : X → Outside) (seeded : X → Seeded) (star
         safe = all-safe AreAdmitted Later b.given first p.scene_after p.serves.turns h opened closed k low front;
       }
 
-  all-right : (vs : List (Visit X)) (each : Every (λ (v : Visit X). Serving outside_of seeded v.begun v.ended) vs)
+  all-right : (vs : List (Visit X)) (each : Every (λ (v : Visit X). ServesSession outside_of seeded v.begun v.ended) vs)
       → Every (λ (v : Visit X). BeginsAfter start v.begun) vs
       → Every (λ (v : Visit X). AllZip Continues v.ended.last world) vs
       → AreRight outside_of seeded opened closed k vs each
@@ -196,7 +198,7 @@ kept-by : (traders items : List PlainTrader) (all : List SessionRequest)
     → Every (λ (p : SessionRequest). is_accepted p.request ≡ true → HasPlace traders items p) all
     → ((k : ℕ) (o c : PlainTrader) → slice_get traders k ≡ Some o → slice_get items k ≡ Some c
     → Every (IsSafeAt o c k) all)
-    → Every (λ (p : SessionRequest). is_accepted p.request ≡ true → IsKept traders items p) all
+    → Every (λ (p : SessionRequest). is_accepted p.request ≡ true → IsInHistory traders items p) all
 kept-by traders items [] has safe = tt
 kept-by traders items (p ∷ ps) has safe = (
   (λ accepted.
@@ -216,10 +218,10 @@ kept-by traders items (p ∷ ps) has safe = (
   kept-by traders items ps has.1 (λ k o c is_o is_c. (safe k o c is_o is_c).1),
 )
 
-module _ {X : Type 0} (outside_of : X → Outside) (seeded : X → Seeded) (traders : List PlainTrader) (world : List View)
+module _ {X : Type 0} (outside_of : X → Outside) (seeded : X → WordsBySeeding) (traders : List PlainTrader) (world : List View)
     (items : List PlainTrader) (closes : Rows Closes traders world items) where
-  ones-places : (last : List View) → AllZip Continues last world → (session : ℕ) (ns : List Noted)
-      → Each (λ (n : Noted) (rest : List Noted). is_accepted n ≡ true → IsSomewhere last n) ns
+  ones-places : (last : List View) → AllZip Continues last world → (session : ℕ) (ns : List ServedRequest)
+      → Each (λ (n : ServedRequest) (rest : List ServedRequest). is_accepted n ≡ true → IsSomewhere last n) ns
       → Every (λ (p : SessionRequest). is_accepted p.request ≡ true → HasPlace traders items p)
       (map (request_in session) ns)
   ones-places last seen session [] h = tt
@@ -235,7 +237,7 @@ module _ {X : Type 0} (outside_of : X → Outside) (seeded : X → Seeded) (trad
     ones-places last seen session ns h.1,
   )
 
-  all-places : (vs : List (Visit X)) (each : Every (λ (v : Visit X). Serving outside_of seeded v.begun v.ended) vs)
+  all-places : (vs : List (Visit X)) (each : Every (λ (v : Visit X). ServesSession outside_of seeded v.begun v.ended) vs)
       → Every (λ (v : Visit X). AllZip Continues v.ended.last world) vs
       → Every (λ (p : SessionRequest). is_accepted p.request ≡ true → HasPlace traders items p)
       (all_requests outside_of seeded vs each)
@@ -258,18 +260,18 @@ module _ {X : Type 0} (outside_of : X → Outside) (seeded : X → Seeded) (trad
 abbrev with_number : SessionRequest → ℕ × Entry
 with_number p = (p.session, p.request.entry)
 
-of-requests : (session : ℕ) (ns : List Noted)
-    → map (λ (e : Entry). (session, e)) (map (λ (n : Noted). n.entry) ns)
+of-requests : (session : ℕ) (ns : List ServedRequest)
+    → map (λ (e : Entry). (session, e)) (map (λ (n : ServedRequest). n.entry) ns)
     ≡ map with_number (map (request_in session) ns)
 of-requests session [] = refl
 of-requests session (n ∷ ns) = ap (λ (l : List (ℕ × Entry)). (session, n.entry) ∷ l) (of-requests session ns)
 
-ones-journal : (session : ℕ) (journal : List Entry) (ns : List Noted) → journal ≡ map (λ (n : Noted). n.entry) ns
+ones-journal : (session : ℕ) (journal : List Entry) (ns : List ServedRequest) → journal ≡ map (λ (n : ServedRequest). n.entry) ns
     → map (λ (e : Entry). (session, e)) journal ≡ map with_number (map (request_in session) ns)
 ones-journal session journal ns is = ap (map (λ (e : Entry). (session, e))) is ∙ of-requests session ns
 
-all-journals : {X : Type 0} (outside_of : X → Outside) (seeded : X → Seeded) (vs : List (Visit X))
-    (each : Every (λ (v : Visit X). Serving outside_of seeded v.begun v.ended) vs)
+all-journals : {X : Type 0} (outside_of : X → Outside) (seeded : X → WordsBySeeding) (vs : List (Visit X))
+    (each : Every (λ (v : Visit X). ServesSession outside_of seeded v.begun v.ended) vs)
     → flat_map noted_by vs ≡ map with_number (all_requests outside_of seeded vs each)
 all-journals outside_of seeded [] each = refl
 all-journals outside_of seeded (v ∷ vs) each =
@@ -283,20 +285,20 @@ all-journals outside_of seeded (v ∷ vs) each =
 
 -- ---- the law
 
-abbrev begun_of : {X : Type 0} → Visit X → Begun X
+abbrev begun_of : {X : Type 0} → Visit X → SessionStart X
 begun_of v = v.begun
 
-module _ {X : Type 0} (outside_of : X → Outside) (seeded : X → Seeded) (home : Address) (seed : List ℕ)
-    (traders : List PlainTrader) (door door_after : Option (Door X)) (told told_after : Option (Told X))
-    (s : ServesAll outside_of seeded home seed traders door told door_after told_after) where
+module _ {X : Type 0} (outside_of : X → Outside) (seeded : X → WordsBySeeding) (home : Address) (seed : List ℕ)
+    (traders : List PlainTrader) (door door_after : Option (Door X)) (content content_after : Option (HandedSessions X))
+    (s : ServesSessions outside_of seeded home seed traders door content door_after content_after) where
   abbrev items : List PlainTrader
   items = s.hands.solo.traders.items
 
   abbrev all : List SessionRequest
   all = all_requests outside_of seeded s.whole.visits s.whole.each
 
-  abbrev start : Stand X
-  start = beginning home seed traders door told
+  abbrev start : ServerState X
+  start = server_start home seed traders door content
 
   begin : Every (λ (v : Visit X). BeginsAfter start v.begun) s.whole.visits
   begin =
@@ -348,5 +350,5 @@ module _ {X : Type 0} (outside_of : X → Outside) (seeded : X → Seeded) (home
   }
 
 pub of-sessions : (X : Type 0) → EntriesAreOfSessions X
-of-sessions X outside_of seeded home seed traders door door_after told told_after s =
-    of-all outside_of seeded home seed traders door door_after told told_after s
+of-sessions X outside_of seeded home seed traders door door_after content content_after s =
+    of-all outside_of seeded home seed traders door door_after content content_after s

@@ -8,15 +8,15 @@ use Rattle.td_ops.specs.declared.call.Change.{Change}
 use Rattle.td_ops.specs.declared.call.Change.TheVariants as change
 use Rattle.td_ops.specs.declared.outcome.Reply.TheVariants.{Nothing}
 use Rattle.td_register.specs.declared.history.Accepted.{Accepted}
-use Rattle.td_reply.specs.declared.entry.Entry.{Entry}
-use Rattle.td_reply.specs.declared.judging.Judged.TheVariants.{Call, Refused}
-use Rattle.td_reply.specs.declared.judging.Judged.{Judged}
+use Rattle.td_servant.specs.declared.entry.Entry.{Entry}
+use Rattle.td_servant.specs.declared.judging.Judged.TheVariants.{Call, Refused}
+use Rattle.td_servant.specs.declared.judging.Judged.{Judged}
 use Rattle.td_server.specs.Whole.{Every}
 use Rattle.td_sessions_laws.proofs.OneSession.{made-there}
-use Rattle.td_sessions_laws.specs.Examples.{WorkedEntries, by_one, by_two, mask, masked, two_entries}
+use Rattle.td_sessions_laws.specs.Examples.{WorkedEntries, by_one, by_two, mask, mask_entry, two_entries}
 use Rattle.td_sessions_laws.specs.OneHistory.{MakesEntry, MakesNone, SessionRequest, request_in}
-use Rattle.td_turns.specs.Examples.{repository}
-use Rattle.td_turns.specs.Journals.{Makes, asking, changing, linking, places_in}
+use Rattle.td_session_runs.specs.Examples.{repository}
+use Rattle.td_session_runs.specs.Journals.{Makes, asking, changing, linking, places_in}
 
 not-both : (m n : ℕ) → (m ≡ n → ⊥) → In m (n ∷ []) → ⊥
 not-both m n other (inl e) = other e
@@ -27,7 +27,7 @@ first-made = record {
   accepted = refl;
   change = mask (codes "T");
   made = changing repository (mask (codes "T")) 0;
-  told = Nothing;
+  content = Nothing;
   outcome = refl;
   stands = refl;
 }
@@ -37,7 +37,7 @@ second-made = record {
   accepted = refl;
   change = mask (codes "U");
   made = changing repository (mask (codes "U")) 1;
-  told = Nothing;
+  content = Nothing;
   outcome = refl;
   stands = refl;
 }
@@ -82,7 +82,7 @@ not-by-one p is m =
     subst (λ (q : SessionRequest). MakesEntry two_entries 0 1 q.request) (sym is) m in
     let e : 0 ≡ 1 = (made-there 0 0 n.made (inl refl)).1 in omega (arith, e)
 
-not-there : MakesEntry two_entries 0 0 (masked (codes "U") 0) → ⊥
+not-there : MakesEntry two_entries 0 0 (mask_entry (codes "U") 0) → ⊥
 unfolding IsAsked change-there letter
 not-there m =
     let asked : m.change ≡ mask (codes "U") = as-asked m.made in
@@ -117,7 +117,7 @@ worked = record {
     alone = (not-both 0 1 (λ e. omega (arith, e)), tt);
   };
   twice = λ m.
-      two-are-two 0 0 by_one (request_in 2 (masked (codes "T") 0)) m.before m.rest m.one m.are (inl refl)
+      two-are-two 0 0 by_one (request_in 2 (mask_entry (codes "T") 0)) m.before m.rest m.one m.are (inl refl)
       (inl refl) m.alone;
   by_nobody = λ m. not-by-one m.one (only-one by_one m.one m.before m.rest m.are) m.makes;
   elsewhere = not-there;

@@ -9,15 +9,15 @@ use Rattle.td_ops.specs.declared.call.Change.{Change}
 use Rattle.td_ops.specs.declared.outcome.Outcome.TheVariants.{Done}
 use Rattle.td_ops.specs.declared.outcome.Reply.{Reply}
 use Rattle.td_register.specs.declared.history.Accepted.{Accepted}
-use Rattle.td_reply.specs.declared.entry.Entry.{Entry}
+use Rattle.td_servant.specs.declared.entry.Entry.{Entry}
 use Rattle.td_stream.specs.Outside.{Outside}
-use Rattle.td_sessions.specs.Sessions.{Seeded, Serving, Told}
+use Rattle.td_sessions.specs.Sessions.{WordsBySeeding, ServesSession, HandedSessions}
 use Rattle.td_server.specs.Whole.{Every}
-use Rattle.td_sessions.specs.Whole.{ServesAll, Visit}
+use Rattle.td_sessions.specs.Whole.{ServesSessions, Visit}
 use Rattle.td_trader.specs.Following.{Follows}
 use Rattle.td_trader.specs.PlainTraders.{PlainTrader}
-use Rattle.td_turns.specs.Journals.{Makes, is_accepted, places_in}
-use Rattle.td_turns.specs.Turns.{Noted, noted_of}
+use Rattle.td_session_runs.specs.Journals.{Makes, is_accepted, places_in}
+use Rattle.td_session_runs.specs.Turns.{ServedRequest, noted_of}
 use Rattle.td_walk.specs.declared.trace.Address.{Address}
 
 -- ---- the Requests of all sessions
@@ -25,15 +25,15 @@ use Rattle.td_walk.specs.declared.trace.Address.{Address}
 -- a Request as it was served, and the number of the session that served it
 pub record SessionRequest : Type 0 where
   pub session : ℕ
-  pub request : Noted
+  pub request : ServedRequest
 
-abbrev pub request_in : ℕ → Noted → SessionRequest
+abbrev pub request_in : ℕ → ServedRequest → SessionRequest
 request_in session request = record { session = session; request = request }
 
 -- of each session those of its run, in order, in the order in which the sessions were handed on
-abbrev pub all_requests : {X : Type 0} (outside_of : X → Outside) (seeded : X → Seeded)
+abbrev pub all_requests : {X : Type 0} (outside_of : X → Outside) (seeded : X → WordsBySeeding)
     (visits : List (Visit X))
-    → Every (λ (v : Visit X). Serving outside_of seeded v.begun v.ended) visits
+    → Every (λ (v : Visit X). ServesSession outside_of seeded v.begun v.ended) visits
     → List SessionRequest
 all_requests outside_of seeded [] each = []
 all_requests outside_of seeded (v ∷ vs) each =
@@ -44,13 +44,13 @@ all_requests outside_of seeded (v ∷ vs) each =
 
 -- The Request is an accepted change at this place of trader k, and the entry of the history there is its change with
 -- the reply that it was answered with.
-pub record MakesEntry (history : List Accepted) (k place : ℕ) (n : Noted) : Type 0 where
+pub record MakesEntry (history : List Accepted) (k place : ℕ) (n : ServedRequest) : Type 0 where
   pub accepted : is_accepted n ≡ true
   pub change : Change
   pub made : Makes n.judged n.entry k place change
-  pub told : Reply
-  pub outcome : n.outcome ≡ Done told
-  pub stands : StandsAt history place change told
+  pub content : Reply
+  pub outcome : n.outcome ≡ Done content
+  pub stands : StandsAt history place change content
 
 -- it is no accepted change at this place of trader k
 abbrev pub MakesNone : (k place : ℕ) → SessionRequest → Type 0
@@ -67,7 +67,7 @@ pub record IsMadeOnce (history : List Accepted) (k place : ℕ)
   pub alone : Every (MakesNone k place) (before ++ rest)
 
 -- the Request has made an entry of one trader's history since the opening
-pub record IsKept (opened closed : List PlainTrader) (p : SessionRequest) : Type 0 where
+pub record IsInHistory (opened closed : List PlainTrader) (p : SessionRequest) : Type 0 where
   pub k : ℕ
   pub place : ℕ
   pub first : PlainTrader
@@ -97,7 +97,8 @@ pub record AreOfSessions (opened closed : List PlainTrader) (journals : List (�
   pub each : (k : ℕ) (o c : PlainTrader) → slice_get opened k ≡ Some o → slice_get closed k ≡ Some c
       → IsOfSessions k o c all
   -- no accepted change is lost, or stands anywhere else
-  pub kept : Every (λ (p : SessionRequest). is_accepted p.request ≡ true → IsKept opened closed p)
+  pub kept : Every (λ (p : SessionRequest). is_accepted p.request ≡ true
+      → IsInHistory opened closed p)
       all
 
 -- what a session has noted, with its number
@@ -107,9 +108,9 @@ noted_by v = map (λ (e : Entry). (v.begun.number, e)) v.ended.kept.journal
 -- so it is where a server has served its last visitor
 abbrev pub EntriesAreOfSessions : Type 0 → Type 0
 EntriesAreOfSessions X =
-    (outside_of : X → Outside) (seeded : X → Seeded) (home : Address) (seed : List ℕ)
+    (outside_of : X → Outside) (seeded : X → WordsBySeeding) (home : Address) (seed : List ℕ)
     (traders : List PlainTrader) (door door_after : Option (Door X))
-    (told told_after : Option (Told X))
-    (s : ServesAll outside_of seeded home seed traders door told door_after told_after)
+    (content content_after : Option (HandedSessions X))
+    (s : ServesSessions outside_of seeded home seed traders door content door_after content_after)
     → AreOfSessions traders s.hands.solo.traders.items (flat_map noted_by s.whole.visits)
     (all_requests outside_of seeded s.whole.visits s.whole.each)

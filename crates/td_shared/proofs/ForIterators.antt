@@ -2,7 +2,7 @@
 use Rattle.std.proofs.Common.{◌≡◌, ℕ, List, [], ◌++◌, None, Some, Bool, OnOk, Result, Ok, Err, refl, sym, ap, subst}
 use Rattle.std.proofs.Common.{◌∙◌, arith}
 use Rattle.td_cdr.specs.Place.{At}
-use Rattle.td_cdr.specs.declared.memory.Memory.{Memory as WantOfMemory}
+use Rattle.td_cdr.specs.declared.memory.Memory.{Memory as MemoryFault}
 use Rattle.td_cdr.specs.declared.order.Order.{Order}
 use Rattle.td_cell.specs.declared.pass.View.{View}
 use Rattle.td_desk.specs.declared.event.Event.{Event}
@@ -18,10 +18,10 @@ use Rattle.td_stream.specs.Heads.{HasHead, IsCancelRequest, IsLocateRequest, IsM
 use Rattle.td_stream.specs.Messages.{behind, minor_of, order_of}
 use Rattle.td_stream.specs.declared.head.Head.TheVariants.{Request}
 use Rattle.td_value.specs.declared.key.Kind.TheVariants as object_kind
-use Rattle.td_serve.specs.declared.reply_to.ReplyTo.{ReplyTo}
+use Rattle.td_dispatch.specs.declared.reply_to.ReplyTo.{ReplyTo}
 use Rattle.td_shared.specs.Calling.{NotesCall, located_by, replied_to}
 use Rattle.td_shared.specs.Serving.{IsKeyed, IsUnkeyed, request, locate}
-use Rattle.td_shared.specs.Stages.{IsDone, noted, shared_stage}
+use Rattle.td_shared.specs.Stages.{IsDone, entry_of_call, shared_stage}
 use Rattle.td_shared.specs.declared.entry.SharedEntry.{SharedEntry}
 
 -- ---- which iterator it is for
@@ -73,7 +73,7 @@ module _ (m : Raw) (is : IsMessage m) where
 
 module _ (s s_then : Stage) (v w : View (List Event)) (j k : List SharedEntry) (reply : List ℕ) (m : Raw)
     (is : IsMessage m) (trader : List ℕ) (number : ℕ) (call : DeskCall) (done : IsDone call)
-    (notes : k ≡ j ++ noted call) (same : s_then ≡ s) where
+    (notes : k ≡ j ++ entry_of_call call) (same : s_then ≡ s) where
   pub keyed_request : (h : RequestHead) → HasHead m (Request h) → iterator_key h.key.now ≡ Some (trader, number)
       → ServesIterator (replied_to m.order m.minor h) trader number v
       (asked_by (call_read (object_kind.Iterator number) h.operation.now h.body)) reply call w
@@ -125,7 +125,7 @@ module _ (s s_then : Stage) (v w : View (List Event)) (j k : List SharedEntry) (
 
 pub request_answered : (v w : View (List Event)) (j k : List SharedEntry) (reply : List ℕ) (m : Raw)
     (is : IsMessage m) (trader : List ℕ) (number : ℕ) (call : DeskCall) (full full_then : Bool)
-    (r : Result (Unit {0}) WantOfMemory) (h : RequestHead) (to : ReplyTo) → NotesCall call j k full full_then r
+    (r : Result (Unit {0}) MemoryFault) (h : RequestHead) (to : ReplyTo) → NotesCall call j k full full_then r
     → HasHead m (Request h) → iterator_key h.key.now ≡ Some (trader, number) → to ≡ replied_to m.order m.minor h
     → ServesIterator to trader number v (asked_by (call_read (object_kind.Iterator number) h.operation.now h.body))
     reply call w

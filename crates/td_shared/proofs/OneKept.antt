@@ -3,12 +3,12 @@ use Rattle.std.proofs.Common.{◌≡◌, inl, inr, ℕ, Bool, true, false, List,
 use Rattle.std.proofs.Common.{if◌then◌else◌, ap, subst, ◌∙◌}
 use Rattle.td_cdr.specs.Marks.{Marks}
 use Rattle.td_cdr.specs.Writing.{Draft}
-use Rattle.td_codes.specs.Formats.{is_some}
-use Rattle.td_iter.specs.Desks.{Live, added, item_of}
+use Rattle.td_typecode.specs.Formats.{is_nonempty}
+use Rattle.td_iter.specs.Desks.{Live, with_added, item_of}
 use Rattle.td_iter.specs.declared.item.Item.{Item}
 use Rattle.td_iter.specs.declared.item.Item.TheVariants.{Offers, Ids}
 use Rattle.td_lookup.specs.Choosing.{chosen}
-use Rattle.td_lookup.specs.Querying.{VisitTold}
+use Rattle.td_lookup.specs.Querying.{AnswersVisit}
 use Rattle.td_lookup.specs.Scenes.{Scene}
 use Rattle.td_ops.specs.declared.call.Call.{Call as Asking}
 use Rattle.td_ops.specs.declared.call.Call.TheVariants as call
@@ -16,14 +16,14 @@ use Rattle.td_ops.specs.declared.call.IterCall.{IterCall}
 use Rattle.td_ops.specs.declared.call.Query.{Query}
 use Rattle.td_ops.specs.declared.outcome.Outcome.{Outcome}
 use Rattle.td_register.specs.declared.history.Accepted.{Accepted}
-use Rattle.td_reply.specs.Iterating.{IteratorDone}
-use Rattle.td_reply.specs.Looking.{CutsList}
-use Rattle.td_reply.specs.declared.entry.Entry.{Entry}
-use Rattle.td_reply.specs.declared.judging.Judged.{Judged}
-use Rattle.td_reply.specs.declared.judging.Judged.TheVariants.{Call, Refused}
-use Rattle.td_reply.specs.declared.objects.Object.{Object}
-use Rattle.td_serve.specs.Requests.{Answers, Comes}
-use Rattle.td_turns.specs.Turns.{IsTurn, Turn, request, locate, cancel}
+use Rattle.td_servant.specs.Iterating.{IteratorDone}
+use Rattle.td_servant.specs.Looking.{CutsList}
+use Rattle.td_servant.specs.declared.entry.Entry.{Entry}
+use Rattle.td_servant.specs.declared.judging.Judged.{Judged}
+use Rattle.td_servant.specs.declared.judging.Judged.TheVariants.{Call, Refused}
+use Rattle.td_servant.specs.declared.objects.Object.{Object}
+use Rattle.td_dispatch.specs.Requests.{AnswersRequest, OutcomeOfRequest}
+use Rattle.td_session_runs.specs.Turns.{IsTurn, Turn, request, locate, cancel}
 use Rattle.td_walk.specs.declared.trace.Address.{Address}
 use Rattle.td_walk.specs.declared.trace.Visit.{Visit}
 use Rattle.td_walk.specs.declared.trace.Visit.TheVariants as visit
@@ -32,7 +32,7 @@ use Rattle.td_session.specs.Stages.{Stage, turn_of}
 use Rattle.td_shared.specs.Stages.{KeepsOne, keeps_none, keeps_one, none_kept}
 
 one_of : (b : Bool) (n : ℕ) (name : List ℕ) (item : Item) (e : Live)
-    → e ≡ (if b then added name item (none_kept n) else none_kept n) → KeepsOne n e
+    → e ≡ (if b then with_added name item (none_kept n) else none_kept n) → KeepsOne n e
 one_of true n name item e h = keeps_one name item h
 one_of false n name item e h = keeps_none h
 
@@ -41,7 +41,7 @@ module _ (n : ℕ) where
       (draft : Draft) (o : Outcome) (e : Live) → CutsList home name count ids found draft (none_kept n) o e
       → KeepsOne n e
   look_keeps home name count (Some ids) found draft o e h =
-      one_of (is_some (drop h.count ids)) n name (Ids (drop h.count ids)) e h.kept
+      one_of (is_nonempty (drop h.count ids)) n name (Ids (drop h.count ids)) e h.kept
   look_keeps home name count None found draft o e h = keeps_none h.1
 
   look_keeps_at : (home : Address) (name : List ℕ) (count : ℕ) (ids : Option (List (List ℕ))) (found : Outcome)
@@ -52,16 +52,16 @@ module _ (n : ℕ) where
       (subst (λ (x : Live). CutsList home name count ids found draft x o e) bare h)
 
   visit_keeps : (home : Address) (name : List ℕ) (q : Query) (v : Visit) (draft : Draft) (o : Outcome) (e : Live)
-      → VisitTold home name q v draft (none_kept n) o e → KeepsOne n e
+      → AnswersVisit home name q v draft (none_kept n) o e → KeepsOne n e
   visit_keeps home name q (visit.Refused r) draft o e h = keeps_none h.1
   visit_keeps home name q (visit.Answered a max_list) draft o e h =
       let found = map (chosen q.desired) a.offers in
-      one_of (is_some (drop h.count found)) n name (Offers (drop h.count found)) e h.kept
+      one_of (is_nonempty (drop h.count found)) n name (Offers (drop h.count found)) e h.kept
 
   visit_keeps_at : (home : Address) (name : List ℕ) (q : Query) (v : Visit) (draft : Draft) (d : Live) (o : Outcome)
-      (e : Live) → d ≡ none_kept n → VisitTold home name q v draft d o e → KeepsOne n e
+      (e : Live) → d ≡ none_kept n → AnswersVisit home name q v draft d o e → KeepsOne n e
   visit_keeps_at home name q v draft d o e bare h =
-      visit_keeps home name q v draft o e (subst (λ (x : Live). VisitTold home name q v draft x o e) bare h)
+      visit_keeps home name q v draft o e (subst (λ (x : Live). AnswersVisit home name q v draft x o e) bare h)
 
   iterator_keeps : (name : List ℕ) (number : ℕ) (i : IterCall) (d : Live) (draft : Draft) (o : Outcome) (e : Live)
       → d ≡ none_kept n → IteratorDone name number (item_of name number d) i d draft o e → KeepsOne n e
@@ -78,7 +78,7 @@ module _ (others : List Accepted → Type 0) (later : Marks → Marks → Type 0
     as_before : t.desk ≡ s.desk → KeepsOne n t.desk
     as_before h = keeps_none (h ∙ bare)
 
-    call_keeps : (x : Object) (c : Asking) (draft : Draft) → Comes others later home (Call x c) draft s o e t
+    call_keeps : (x : Object) (c : Asking) (draft : Draft) → OutcomeOfRequest others later home (Call x c) draft s o e t
         → KeepsOne n t.desk
     call_keeps x (call.Change c) draft h = as_before (ap desk_of h.1)
     call_keeps x (call.Look l) draft h =
@@ -90,11 +90,11 @@ module _ (others : List Accepted → Type 0) (later : Marks → Marks → Type 0
     call_keeps x (call.Query q) draft h = visit_keeps_at n home _ q h.visit draft s.desk o t.desk bare h.answer
     call_keeps x (call.Resolve names) draft h = as_before h.desk
 
-    comes_keeps : (j : Judged) (draft : Draft) → Comes others later home j draft s o e t → KeepsOne n t.desk
+    comes_keeps : (j : Judged) (draft : Draft) → OutcomeOfRequest others later home j draft s o e t → KeepsOne n t.desk
     comes_keeps (Refused r) draft h = as_before (ap desk_of h.2)
     comes_keeps (Call x c) draft h = call_keeps x c draft h
 
-    answers_keep : (j : Judged) (draft : Draft) → Answers others later home j draft s o e t → KeepsOne n t.desk
+    answers_keep : (j : Judged) (draft : Draft) → AnswersRequest others later home j draft s o e t → KeepsOne n t.desk
     answers_keep j draft (inl comes) = comes_keeps j draft comes
     answers_keep j draft (inr wants) = as_before wants.desk
 

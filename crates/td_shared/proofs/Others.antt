@@ -5,23 +5,23 @@ use Rattle.std.specs.Prelude.{slice_get}
 use Rattle.td_cdr.specs.Marks.{Marks}
 use Rattle.td_cell.specs.declared.pass.View.{View}
 use Rattle.td_desk.specs.Acting.{draws_by}
-use Rattle.td_desk.specs.Sharing.{Turns}
-use Rattle.td_desk.specs.Standings.{is_full, standing}
+use Rattle.td_desk.specs.Sharing.{ActsInTurn}
+use Rattle.td_desk.specs.Standings.{is_full, state_after}
 use Rattle.td_desk.specs.declared.act.Act.TheVariants as act
-use Rattle.td_desk.specs.declared.act.Reply.TheVariants as told
+use Rattle.td_desk.specs.declared.act.Reply.TheVariants as content
 use Rattle.td_desk.specs.declared.event.Event.{Event}
 use Rattle.td_desk.specs.declared.fault.DeskFault.{DeskFault}
 use Rattle.td_desk.specs.declared.fault.DeskFault.TheVariants as fault
 use Rattle.td_iter.specs.Desks.{Live}
-use Rattle.td_iter.specs.declared.desk.Entry.{Entry as Iterator}
+use Rattle.td_iter.specs.declared.desk.DeskEntry.{DeskEntry as Iterator}
 use Rattle.td_iter.specs.declared.item.Item.{Item}
 use Rattle.td_register.specs.declared.history.Accepted.{Accepted}
-use Rattle.td_reply.specs.declared.entry.Entry.{Entry}
-use Rattle.td_serve.specs.Backends.{BackendSeen}
+use Rattle.td_servant.specs.declared.entry.Entry.{Entry}
+use Rattle.td_dispatch.specs.Backends.{BackendSeen}
 use Rattle.td_session.specs.Rooms.{Room}
 use Rattle.td_session.specs.Serving.{ServesMessage, Stays}
 use Rattle.td_session.specs.Stages.{Stage, stage_in}
-use Rattle.td_turns.specs.Turns.{Noted, noted_in}
+use Rattle.td_session_runs.specs.Turns.{ServedRequest, noted_in}
 use Rattle.td_shared.specs.Serving.{IsUnkeyed, PutsKept, ServesOther, StaysShared}
 use Rattle.td_shared.specs.Stages.{KeepsOne, keeps_none, keeps_one, one_kept, shared_in, with_desk}
 use Rattle.td_shared.specs.declared.entry.SharedEntry.{SharedEntry}
@@ -70,7 +70,7 @@ pub kept_number : (n : ℕ) (d : Live) (x : Iterator Item) → KeepsOne n d → 
 kept_number n d x one at = (kept_item n d x one at).number_is
 
 pub puts_it : (n : ℕ) (d : Live) (x : Iterator Item) (back : Option (Iterator Item)) (v w : View (List Event))
-    → KeepsOne n d → Some x ≡ slice_get d.0 0 → Turns v (act.Add x) (told.Added back) w → PutsKept v d.0 w
+    → KeepsOne n d → Some x ≡ slice_get d.0 0 → ActsInTurn v (act.Add x) (content.Added back) w → PutsKept v d.0 w
 puts_it n d x back v w one at turned =
     subst (λ (es : List (Iterator Item)). PutsKept v es w) (sym (kept_item n d x one at).only) (back, turned)
 
@@ -95,7 +95,7 @@ left_none n d x one at room r is to =
 
 -- ---- what was noted
 
-one_noted : (n : Option Noted) → length (map (λ (x : Noted). x.entry) (noted_in n ++ [])) ≤ 1
+one_noted : (n : Option ServedRequest) → length (map (λ (x : ServedRequest). x.entry) (noted_in n ++ [])) ≤ 1
 one_noted None = let few : 0 ≤ 1 = omega arith in few
 one_noted (Some n) = let few : 1 ≤ 1 = omega arith in few
 
@@ -104,7 +104,7 @@ module _ (others : List Accepted → Type 0) (later : Marks → Marks → Type 0
   pub message_notes : (s : Stage) (message reply : List ℕ) (u : Stage) → s.journal ≡ []
       → ServesMessage others later s message reply u → length u.journal ≤ 1
   message_notes s message reply u none h =
-      let noted : List Entry = map (λ (x : Noted). x.entry) (noted_in h.noted ++ []) in
+      let noted : List Entry = map (λ (x : ServedRequest). x.entry) (noted_in h.noted ++ []) in
       let is : u.journal ≡ noted = h.journal ∙ ap (λ (j : List Entry). j ++ noted) none in
       subst (λ (j : List Entry). length j ≤ 1) (sym is) (one_noted h.noted)
 
@@ -129,7 +129,7 @@ left_unnoted room r e few is to =
 
 module _ (others : List Accepted → Type 0) (later : Marks → Marks → Type 0) (before now : BackendSeen)
     (room : Room) (n : ℕ) (v d : View (List Event)) (j : List SharedEntry)
-    (draws : Turns v act.Draw (told.Drawn (Ok n)) d) where
+    (draws : ActsInTurn v act.Draw (content.Drawn (Ok n)) d) where
   pub serves_other : (m r : Room) (message : List ℕ) (w : View (List Event)) (k : List SharedEntry)
       → room.journal ≡ [] → IsUnkeyed message
       → ServesMessage others later (stage_in before (record room { desk = ([], n) })) message m.replies (stage_in now m)
@@ -154,7 +154,7 @@ module _ (others : List Accepted → Type 0) (later : Marks → Marks → Type 0
         rest = refl;
       })
 
-  -- memory was wanted to note it
+  -- memory ran out to note it
   pub stays_drawn : (m : Room) → Stays (stage_in before (record room { desk = ([], n) })) (stage_in now m)
       → StaysShared false (shared_in before room v j) (shared_in now m d j)
   stays_drawn m stays = record {
@@ -177,14 +177,14 @@ fault_is : (full : Bool) (n : ℕ) (f : DeskFault) → Err f ≡ draws_by full n
 fault_is true n f is = ap fault_or is
 fault_is false n f is = absurd (subst IsFault is tt)
 
-pub draws_full : (v w : View (List Event)) (f : DeskFault) → Turns v act.Draw (told.Drawn (Err f)) w
-    → Turns v act.Draw (told.Drawn (Err fault.Full)) w
+pub draws_full : (v w : View (List Event)) (f : DeskFault) → ActsInTurn v act.Draw (content.Drawn (Err f)) w
+    → ActsInTurn v act.Draw (content.Drawn (Err fault.Full)) w
 draws_full v w f t =
-    subst (λ (g : DeskFault). Turns v act.Draw (told.Drawn (Err g)) w)
-    (fault_is (is_full (standing t.before).draws) (standing t.before).draws f t.act.result) t
+    subst (λ (g : DeskFault). ActsInTurn v act.Draw (content.Drawn (Err g)) w)
+    (fault_is (is_full (state_after t.before).draws) (state_after t.before).draws f t.act.result) t
 
 pub stays_full : (before now : BackendSeen) (room m : Room) (v w : View (List Event)) (j : List SharedEntry)
-    → stage_in now m ≡ stage_in before room → Turns v act.Draw (told.Drawn (Err fault.Full)) w
+    → stage_in now m ≡ stage_in before room → ActsInTurn v act.Draw (content.Drawn (Err fault.Full)) w
     → StaysShared true (shared_in before room v j) (shared_in now m w j)
 stays_full before now room m v w j same turned = record {
   view = inl turned;

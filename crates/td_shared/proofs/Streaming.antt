@@ -4,10 +4,10 @@ use Rattle.td_cdr.specs.Marks.{Marks}
 use Rattle.td_cell.specs.declared.pass.View.{View}
 use Rattle.td_desk.specs.declared.event.Event.{Event}
 use Rattle.td_register.specs.declared.history.Accepted.{Accepted}
-use Rattle.td_serve.specs.Backends.{BackendSeen}
+use Rattle.td_dispatch.specs.Backends.{BackendSeen}
 use Rattle.td_stream.proofs.Leading.{streams-none}
 use Rattle.td_stream.proofs.Runs.{no_stream}
-use Rattle.td_stream.specs.Exchanges.{Exchange, Run}
+use Rattle.td_stream.specs.Exchanges.{MessageExchange, Run}
 use Rattle.td_stream.specs.Outside.{Outside, outside}
 use Rattle.td_stream.specs.Streams.{Streams}
 use Rattle.td_stream.specs.declared.end.End.{End}
@@ -35,7 +35,7 @@ module _ (others : List Accepted → Type 0) (later : Marks → Marks → Type 0
   abbrev pub StaysKnown : Known → Known → Type 0
   StaysKnown s u = StaysWith s.0 u.0 s.1 u.1
 
-  run_known : (s u : Known) (xs : List Exchange) → s.0 ≡ false → Run ServesKnown s xs u
+  run_known : (s u : Known) (xs : List MessageExchange) → s.0 ≡ false → Run ServesKnown s xs u
       → (u.0 ≡ false) × Run (ServesShared others later) s.1 xs u.1
   run_known s u [] off r = (ap known_full r ∙ off, ap known_stage r)
   run_known s u (x ∷ xs) off r =
@@ -68,7 +68,7 @@ module _ (others : List Accepted → Type 0) (later : Marks → Marks → Type 0
     stream = streams_known s u streamed before after off r;
   }
 
-  -- nothing was read, and memory was wanted
+  -- nothing was read, and memory ran out
   pub shares_none : (s : SharedStage) (left written : Option (List ℕ)) (reads writes : ℕ)
       → ServesSharing others later s s Memory (outside left reads written writes) (outside left reads written writes)
   shares_none s left written reads writes = record {

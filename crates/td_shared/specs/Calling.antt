@@ -1,6 +1,6 @@
 -- The iterator that a message is for, what its call is answered by, and what is noted of it.
 use Rattle.std.specs.Prelude.{◌≡◌, ℕ, Bool, true, List, ◌++◌, Some, Result, Ok, Err}
-use Rattle.td_cdr.specs.declared.memory.Memory.{Memory as WantOfMemory}
+use Rattle.td_cdr.specs.declared.memory.Memory.{Memory as MemoryFault}
 use Rattle.td_cdr.specs.declared.order.Order.{Order}
 use Rattle.td_desk_calls.specs.Calls.{iterator_key}
 use Rattle.td_desk_calls.specs.declared.desk_call.DeskCall.{DeskCall}
@@ -8,10 +8,10 @@ use Rattle.td_desk_calls.specs.declared.desk_call.DeskCall.TheVariants.{Full}
 use Rattle.td_desk_calls.specs.declared.desk_call.IteratorCall.{IteratorCall}
 use Rattle.td_giop.specs.declared.head.RequestHead.{RequestHead}
 use Rattle.td_giop.specs.declared.raw.Raw.{Raw}
-use Rattle.td_serve.specs.declared.reply_to.ReplyTo.{ReplyTo}
+use Rattle.td_dispatch.specs.declared.reply_to.ReplyTo.{ReplyTo}
 use Rattle.td_stream.specs.declared.head.Head.{Head}
 use Rattle.td_stream.specs.declared.head.Head.TheVariants.{Request, Locate, Cancel}
-use Rattle.td_shared.specs.Stages.{IsDone, noted}
+use Rattle.td_shared.specs.Stages.{IsDone, entry_of_call}
 use Rattle.td_shared.specs.declared.entry.SharedEntry.{SharedEntry}
 
 -- what the Reply to a Request with this head answers
@@ -34,8 +34,8 @@ IsCallOf m (Cancel id) call = ⊥
 
 -- what a call of the desk has left in the session's journal, or that the desk was full and nothing was noted
 abbrev pub NotesCall : DeskCall → (before after : List SharedEntry) → (full full_then : Bool)
-    → Result (Unit {0}) WantOfMemory → Type 0
-NotesCall c before after full full_then (Ok u) = IsDone c × (after ≡ before ++ noted c)
+    → Result (Unit {0}) MemoryFault → Type 0
+NotesCall c before after full full_then (Ok u) = IsDone c × (after ≡ before ++ entry_of_call c)
     × (full_then ≡ full)
 NotesCall c before after full full_then (Err memory) = (c ≡ Full) × (after ≡ before)
     × (full_then ≡ true)

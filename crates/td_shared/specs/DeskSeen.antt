@@ -2,7 +2,7 @@
 use Rattle.std.specs.Prelude.{◌≡◌, ℕ, List, [], Option, None, Some}
 use Rattle.td_cell.specs.Lists.{Rises, itself, merge}
 use Rattle.td_cell.specs.declared.pass.View.{View}
-use Rattle.td_desk.specs.Acting.{GoesOn}
+use Rattle.td_desk.specs.Acting.{ExtendsHistory}
 use Rattle.td_desk.specs.declared.event.Event.{Event}
 
 -- the history, and the places of one's own calls in it
@@ -24,7 +24,7 @@ bare_desk d = record d { own = [] }
 
 -- the second may be what the first has become
 abbrev pub DeskContinues : DeskSeen → DeskSeen → Type 0
-DeskContinues d e = GoesOn d.history e.history
+DeskContinues d e = ExtendsHistory d.history e.history
 
 -- What was seen before a session was taken in and what the session has seen lead to what is seen then. What is own is
 -- own of both, and no place is in both.

@@ -5,9 +5,9 @@ use Rattle.std.specs.Prelude.{◌≡◌, ◌⊎◌, ℕ, Bool, true, false, List
 use Rattle.td_cdr.specs.Marks.{Marks}
 use Rattle.td_cdr.specs.Place.{At}
 use Rattle.td_cell.specs.declared.pass.View.{View}
-use Rattle.td_desk.specs.Sharing.{Turns}
+use Rattle.td_desk.specs.Sharing.{ActsInTurn}
 use Rattle.td_desk.specs.declared.act.Act.TheVariants as act
-use Rattle.td_desk.specs.declared.act.Reply.TheVariants as told
+use Rattle.td_desk.specs.declared.act.Reply.TheVariants as content
 use Rattle.td_desk.specs.declared.event.Event.{Event}
 use Rattle.td_desk.specs.declared.fault.DeskFault.TheVariants as fault
 use Rattle.td_desk_calls.specs.Calls.{asked_by, iterator_key}
@@ -16,17 +16,17 @@ use Rattle.td_desk_calls.specs.declared.desk_call.DeskCall.{DeskCall}
 use Rattle.td_desk_calls.specs.declared.desk_call.DeskCall.TheVariants.{Full}
 use Rattle.td_giop.specs.Heads.{Request, locate_at, request_at}
 use Rattle.td_giop.specs.declared.message_type.TheConstants.{LOCATE_REQUEST, REQUEST}
-use Rattle.td_iter.specs.declared.desk.Entry.{Entry as Iterator}
+use Rattle.td_iter.specs.declared.desk.DeskEntry.{DeskEntry as Iterator}
 use Rattle.td_iter.specs.declared.item.Item.{Item}
 use Rattle.td_ops.specs.Calls.{call_read}
 use Rattle.td_register.specs.declared.history.Accepted.{Accepted}
-use Rattle.td_serve.specs.ReplyBytes.{reply_to}
-use Rattle.td_serve.specs.declared.reply_to.ReplyTo.{ReplyTo}
+use Rattle.td_dispatch.specs.ReplyBytes.{reply_to}
+use Rattle.td_dispatch.specs.declared.reply_to.ReplyTo.{ReplyTo}
 use Rattle.td_session.specs.Serving.{ServesMessage}
 use Rattle.td_session.specs.Stages.{Stage}
 use Rattle.td_stream.specs.Messages.{behind, kind_of, minor_of, order_of}
 use Rattle.td_value.specs.declared.key.Kind.TheVariants as object_kind
-use Rattle.td_shared.specs.Stages.{IsDone, SharedStage, noted, with_desk}
+use Rattle.td_shared.specs.Stages.{IsDone, SharedStage, entry_of_call, with_desk}
 use Rattle.td_shared.specs.declared.entry.SharedEntry.TheVariants.{Session}
 
 -- what the reply to a LocateRequest is written by: one is always expected
@@ -55,7 +55,7 @@ module _ (s : SharedStage) (message reply : List ℕ) (u : SharedStage) where
         trader number s.view (asked_by
         (call_read (object_kind.Iterator number) head.operation body)) reply call u.view
     pub is_done : IsDone call
-    pub journal : u.journal ≡ s.journal ++ noted call
+    pub journal : u.journal ≡ s.journal ++ entry_of_call call
     pub rest : u.stage ≡ s.stage
 
   -- the same of a LocateRequest
@@ -70,7 +70,7 @@ module _ (s : SharedStage) (message reply : List ℕ) (u : SharedStage) where
     pub call : DeskCall
     pub locates : LocatesIterator (located_to message id) trader number s.view reply call u.view
     pub is_done : IsDone call
-    pub journal : u.journal ≡ s.journal ++ noted call
+    pub journal : u.journal ≡ s.journal ++ entry_of_call call
     pub rest : u.stage ≡ s.stage
 
 -- the message is a Request or a LocateRequest whose key is an iterator's
@@ -91,7 +91,8 @@ pub record IsUnkeyed (message : List ℕ) : Type 0 where
 -- what was kept of one message is put on the desk; that is one iterator at most
 abbrev pub PutsKept : View (List Event) → List (Iterator Item) → View (List Event) → Type 0
 PutsKept v [] w = w ≡ v
-PutsKept v (e ∷ []) w = (back : Option (Iterator Item)) × Turns v (act.Add e) (told.Added back) w
+PutsKept v (e ∷ []) w = (back : Option (Iterator Item)) × ActsInTurn v (act.Add e)
+    (content.Added back) w
 PutsKept v (e ∷ f ∷ es) w = ⊥
 
 module _ (others : List Accepted → Type 0) (later : Marks → Marks → Type 0) where
@@ -100,7 +101,7 @@ module _ (others : List Accepted → Type 0) (later : Marks → Marks → Type 0
     pub unkeyed : IsUnkeyed message
     pub number : ℕ
     pub drawn : View (List Event)
-    pub draws : Turns s.view act.Draw (told.Drawn (Ok number)) drawn
+    pub draws : ActsInTurn s.view act.Draw (content.Drawn (Ok number)) drawn
     pub served : Stage
     pub serves : ServesMessage others later (with_desk s.stage [] number) message reply served
     pub keeps : PutsKept drawn served.scene.desk.0 u.view
@@ -116,11 +117,11 @@ module _ (others : List Accepted → Type 0) (later : Marks → Marks → Type 0
 
 -- As many numbers were drawn as may be, or as many calls of iterators done.
 abbrev pub IsFullNow : View (List Event) → View (List Event) → Type 0
-IsFullNow v w = Turns v act.Draw (told.Drawn (Err fault.Full)) w ⊎ IsFullThen v w
+IsFullNow v w = ActsInTurn v act.Draw (content.Drawn (Err fault.Full)) w ⊎ IsFullThen v w
 
--- memory was wanted: at most a number was drawn, which isn't used
+-- memory ran out: at most a number was drawn, which isn't used
 abbrev pub DrawsAtMost : View (List Event) → View (List Event) → Type 0
-DrawsAtMost v w = (w ≡ v) ⊎ ((number : ℕ) × Turns v act.Draw (told.Drawn (Ok number)) w)
+DrawsAtMost v w = (w ≡ v) ⊎ ((number : ℕ) × ActsInTurn v act.Draw (content.Drawn (Ok number)) w)
 
 -- No message was served; that the desk was full is known.
 abbrev pub StaysBy : (full : Bool) → View (List Event) → View (List Event) → Type 0

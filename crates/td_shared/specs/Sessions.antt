@@ -4,7 +4,7 @@ use Rattle.td_cdr.specs.Marks.{Marks}
 use Rattle.td_cell.specs.declared.pass.View.{View}
 use Rattle.td_desk.specs.declared.event.Event.{Event}
 use Rattle.td_register.specs.declared.history.Accepted.{Accepted}
-use Rattle.td_serve.specs.Backends.{BackendSeen, scene_of}
+use Rattle.td_dispatch.specs.Backends.{BackendSeen, scene_of}
 use Rattle.td_session.specs.Rooms.{Room}
 use Rattle.td_session.specs.Stages.{stage}
 use Rattle.td_stream.specs.Outside.{Outside}
@@ -16,8 +16,8 @@ use Rattle.td_shared.specs.Stages.{SharedStage, shared_in, shared_stage}
 use Rattle.td_shared.specs.declared.entry.SharedEntry.{SharedEntry}
 use Rattle.td_walk.specs.declared.trace.Address.{Address}
 
--- A stream whose servant found the desk full, and so answered no more, is too long: that is why it ended for want of
--- memory.
+-- A stream whose servant found the desk full, and so answered no more, is too long: that is why it ended when out
+-- of memory.
 abbrev pub ends_by : (full : Bool) → End → End
 ends_by false end = end
 ends_by true Memory = Long
@@ -25,7 +25,7 @@ ends_by true end = end
 
 -- The messages were served one after the other, each where the one before has left everything; they are cut out of the
 -- bytes that were taken, and their answers were given. Where the desk was full behind them, it was tried for one more,
--- which the stream knows as want of memory.
+-- which the stream knows as running out of memory.
 pub record ServesSharing (others : List Accepted → Type 0) (later : Marks → Marks → Type 0)
     (s u : SharedStage) (end : End) (before after : Outside) : Type 0 where
   pub full : Bool

@@ -5,9 +5,9 @@ use Rattle.td_desk.specs.declared.event.Event.{Event}
 use Rattle.td_desk_calls.specs.declared.desk_call.DeskCall.{DeskCall}
 use Rattle.td_desk_calls.specs.declared.desk_call.DeskCall.TheVariants.{At, Memory, Full}
 use Rattle.td_iter.specs.Desks.{Live}
-use Rattle.td_iter.specs.declared.desk.Entry.{Entry as Iterator}
+use Rattle.td_iter.specs.declared.desk.DeskEntry.{DeskEntry as Iterator}
 use Rattle.td_iter.specs.declared.item.Item.{Item}
-use Rattle.td_serve.specs.Backends.{BackendSeen}
+use Rattle.td_dispatch.specs.Backends.{BackendSeen}
 use Rattle.td_session.specs.Rooms.{Room}
 use Rattle.td_session.specs.Stages.{Stage, stage_in}
 use Rattle.td_shared.specs.declared.entry.SharedEntry.{SharedEntry}
@@ -32,10 +32,10 @@ abbrev pub with_desk : Stage → List (Iterator Item) → ℕ → Stage
 with_desk s kept next = record s { scene = record s.scene { desk = (kept, next) }; journal = [] }
 
 -- what is noted of a call of the desk: its place in the history
-abbrev pub noted : DeskCall → List SharedEntry
-noted (At place) = Desk place ∷ []
-noted Memory = []
-noted Full = []
+abbrev pub entry_of_call : DeskCall → List SharedEntry
+entry_of_call (At place) = Desk place ∷ []
+entry_of_call Memory = []
+entry_of_call Full = []
 
 abbrev pub IsDone : DeskCall → Type 0
 IsDone (At place) = Unit {0}

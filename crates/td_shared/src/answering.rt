@@ -3,8 +3,8 @@
 ghost use Rattle.std.specs.Prelude.{◌≡◌, ◌≤◌, ◌++◌, [], length, map, OnErr, OnOk};
 ghost use Rattle.td_cell.specs.Passes.{Belongs, SameCell, SameNumbers, knowledge};
 ghost use Rattle.td_desk.specs.Sharing.{InOrder, MayAdd};
-ghost use Rattle.td_reply.specs.Linking.{peers_seen};
-ghost use Rattle.td_serve.specs.Backends.{backend_seen};
+ghost use Rattle.td_servant.specs.Linking.{peers_seen};
+ghost use Rattle.td_dispatch.specs.Backends.{backend_seen};
 ghost use Rattle.td_shared.specs.Serving.{IsUnkeyed, PutsKept, ServesOther, StaysWith};
 ghost use Rattle.td_shared.specs.Stages.{KeepsOne, shared_in};
 ghost use Rattle.td_shared.specs.declared.entry.SharedEntry.TheVariants as noted;

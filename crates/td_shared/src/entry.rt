@@ -1,6 +1,6 @@
 //! What is noted of a message.
 
-use td_reply::Entry;
+use td_servant::Entry;
 
 /// What is noted of a message in a session whose server shares a desk of iterators.
 #[derive(Drop)]

@@ -24,7 +24,7 @@ pub trait SharedJournal {
     ///
     /// # Errors
     ///
-    /// `Memory` for want of memory alone; what was noted stays.
+    /// `Memory` only when out of memory; what was noted stays.
     fn take_room(&mut self) -> Result<(), Memory>
         ensures entries { entries self.new ≡ entries self.old }
         ensures room { OnOk result (has_room self.new) };

@@ -6,7 +6,7 @@ ghost use Rattle.td_desk_calls.specs.Calls.{asked_by};
 ghost use Rattle.td_desk_calls.specs.Serving.{LocatesIterator, ServesIterator};
 ghost use Rattle.td_desk_calls.specs.declared.desk_call.DeskCall.{DeskCall as called};
 ghost use Rattle.td_ops.specs.Calls.{call_read};
-ghost use Rattle.td_serve.specs.ReplyBytes.{IsWritable};
+ghost use Rattle.td_dispatch.specs.ReplyBytes.{IsWritable};
 ghost use Rattle.td_session.specs.Stages.{Stage};
 ghost use Rattle.td_shared.specs.Calling.{IsCallOf, NotesCall};
 ghost use Rattle.td_shared.specs.Serving.{IsKeyed, IsUnkeyed, StaysBy};
@@ -21,8 +21,8 @@ use std::alloc::Global;
 use std::sync::Wait;
 use td_cdr::Memory;
 use td_desk_calls::{DeskCall, IteratorCall, answer_request, iterator_key, locate};
+use td_dispatch::{Replies, ReplyTo};
 use td_giop::{Raw, RequestHead};
-use td_serve::{Replies, ReplyTo};
 use td_stream::Head;
 
 /// The iterator that a message is for, by the message's key, of whatever trader; `None` for a message for no iterator.
@@ -67,7 +67,7 @@ pub(crate) fn iterator_of<'m>(message: &Raw<'_>, head: &Head<'m>) -> Option<Iter
 ///
 /// # Errors
 ///
-/// `Memory` where memory was wanted for a LocateRequest, and where a call of the desk was `Full`, which is told beside.
+/// `Memory` when memory ran out for a LocateRequest, and where a call of the desk was `Full`, which is told beside.
 pub(crate) fn answer_keyed<'d, 's, 'j, R: Wait, J: SharedJournal>(
     alloc: Global,
     sharing: &mut Sharing<'d, 's, 'j, R, J>,

@@ -2,8 +2,8 @@
 
 ghost use Rattle.std.specs.Prelude.{◌≡◌, length, if◌then◌else◌};
 ghost use Rattle.td_cell.specs.Passes.{SameCell, SameNumbers, knowledge};
-ghost use Rattle.td_reply.specs.Linking.{peers_seen};
-ghost use Rattle.td_serve.specs.Backends.{backend_seen};
+ghost use Rattle.td_servant.specs.Linking.{peers_seen};
+ghost use Rattle.td_dispatch.specs.Backends.{backend_seen};
 ghost use Rattle.td_shared.specs.Serving.{ServesWith, StaysWith};
 ghost use Rattle.td_shared.specs.Stages.{shared_in};
 
@@ -14,10 +14,10 @@ use crate::sharing::{Sharing, take_room};
 use std::alloc::Global;
 use std::sync::Wait;
 use td_cdr::Memory;
+use td_dispatch::Replies;
 use td_giop::Raw;
 use td_journal::KeptJournal;
 use td_out::Words;
-use td_serve::Replies;
 use td_session::TraderServant;
 use td_stream::{Head, SendsHeld, Servant};
 use td_trader::Traders;
@@ -70,7 +70,7 @@ impl<'d, 't, 's, 'r, 'j, 'p, 'w, R: Wait, J: SharedJournal, T: Traders, P: Peers
         × P.same a.other.peers.now b.other.peers.now
         × W.same a.other.words.now b.other.words.now };
 
-    ghost told = { λ s. if s.keyed then s.replies else s.other.room.now.replies };
+    ghost content = { λ s. if s.keyed then s.replies else s.other.room.now.replies };
 
     // Its numbers are the desk's.
     ghost budget = { λ s. 0 };

@@ -4,8 +4,8 @@ ghost use Rattle.std.specs.Prelude.{◌≡◌, false, IfOk};
 ghost use Rattle.td_cell.specs.Passes.{Belongs, SameCell, SameNumbers, knowledge};
 ghost use Rattle.td_desk.specs.Sharing.{InOrder};
 ghost use Rattle.td_objects.specs.References.{IsAddress};
-ghost use Rattle.td_reply.specs.Linking.{peers_seen};
-ghost use Rattle.td_serve.specs.Backends.{backend_seen};
+ghost use Rattle.td_servant.specs.Linking.{peers_seen};
+ghost use Rattle.td_dispatch.specs.Backends.{backend_seen};
 ghost use Rattle.td_session.specs.Rooms.{IsNew};
 ghost use Rattle.td_shared.specs.Sessions.{ServesFrom, ServesSharing, ends_by};
 ghost use Rattle.td_shared.specs.Stages.{shared_in};
@@ -18,9 +18,9 @@ use std::alloc::Global;
 use std::sync::Wait;
 use td_cdr::{Memory, Twin};
 use td_desk::{DeskPass, SharedDesk};
+use td_dispatch::Replies;
 use td_journal::KeptJournal;
 use td_out::{Sink, Source, Words};
-use td_serve::Replies;
 use td_session::{Room, TraderServant};
 use td_stream::{End, serve_stream};
 use td_trader::Traders;
@@ -225,7 +225,7 @@ fn serve_lent<
     ends_by(servant.sharing.full, streamed)
 }
 
-/// How a session ends whose stream ends so: where the desk was full, that is why it ended for want of memory.
+/// How a session ends whose stream ends so: where the desk was full, that is why it ended when out of memory.
 fn ends_by(full: bool, end: End) -> End
     ensures { result ≡ ends_by full end }
 {

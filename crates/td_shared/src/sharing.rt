@@ -26,7 +26,7 @@ pub(crate) struct Sharing<'d, 's, 'j, R, J> {
 ///
 /// # Errors
 ///
-/// `Memory` for want of memory alone; nothing is changed then.
+/// `Memory` only when out of memory; nothing is changed then.
 pub(crate) fn take_room<'d, 's, 'j, R, J: SharedJournal>(
     sharing: &mut Sharing<'d, 's, 'j, R, J>,
 ) -> Result<(), Memory>

@@ -28,7 +28,7 @@ use td_workers::Stop;
 /// sessions print nothing.
 ///
 /// The status is 0 where no visitor was left, 2 where the arguments are no such command, 3 where the file is refused or
-/// too long, 9 for want of memory, 10 where the file can't be had, and 11 where the acceptor failed.
+/// too long, 9 when out of memory, 10 where the file can't be had, and 11 where the acceptor failed.
 pub fn listen_sharing<
     F: Texts,
     A: Accept,
@@ -49,9 +49,10 @@ pub fn listen_sharing<
     ensures listens { Listens
         (λ v. outside (A.S.left v.source) (A.S.faults v.source) (A.K.written v.sink)
         (A.K.faults v.sink)) (λ v. A.W.word_after v.words) (map string_bytes args.now)
-        (shelves (F.told files.old) (F.faults files.old) (F.faults files.new))
-        (front (A.told accept.old) (A.faults accept.old) (N.told ended.old))
-        (front (A.told accept.new) (A.faults accept.new) (N.told ended.new)) (E.written faults.old)
+        (shelves (F.content files.old) (F.faults files.old) (F.faults files.new))
+        (front (A.content accept.old) (A.faults accept.old) (N.content ended.old))
+        (front (A.content accept.new) (A.faults accept.new) (N.content ended.new))
+        (E.written faults.old)
         (E.written faults.new) (E.faults faults.old) (E.faults faults.new) result }
     ensures later { A.faults accept.old ≤ A.faults accept.new }
 {
@@ -79,9 +80,9 @@ fn obey<
     ensures obeys { Obeys
         (λ v. outside (A.S.left v.source) (A.S.faults v.source) (A.K.written v.sink)
         (A.K.faults v.sink)) (λ v. A.W.word_after v.words) (file_named (map string_bytes args.now))
-        (shelves (F.told files.old) (F.faults files.old) (F.faults files.new)) result
-        (front (A.told accept.old) (A.faults accept.old) (N.told ended.old))
-        (front (A.told accept.new) (A.faults accept.new) (N.told ended.new)) }
+        (shelves (F.content files.old) (F.faults files.old) (F.faults files.new)) result
+        (front (A.content accept.old) (A.faults accept.old) (N.content ended.old))
+        (front (A.content accept.new) (A.faults accept.new) (N.content ended.new)) }
     ensures later { A.faults accept.old ≤ A.faults accept.new }
 {
     match file_named(args) {
@@ -107,7 +108,7 @@ fn file_named(args: &[String]) -> Option<&str>
 }
 
 /// Serves the visitors at the address of the file of this name.
-#[tactic(auto, using(td_shared_sessions::specs::HallLaws::hands_none))]
+#[tactic(auto, using(td_shared_sessions::specs::JobSourceLaws::hands_none))]
 fn serve_file<
     F: Texts,
     A: Accept,
@@ -126,9 +127,9 @@ fn serve_file<
     ensures serves { ServesFile
         (λ v. outside (A.S.left v.source) (A.S.faults v.source) (A.K.written v.sink)
         (A.K.faults v.sink)) (λ v. A.W.word_after v.words)
-        (shelves (F.told files.old) (F.faults files.old) (F.faults files.new)) name.now result
-        (front (A.told accept.old) (A.faults accept.old) (N.told ended.old))
-        (front (A.told accept.new) (A.faults accept.new) (N.told ended.new)) }
+        (shelves (F.content files.old) (F.faults files.old) (F.faults files.new)) name.now result
+        (front (A.content accept.old) (A.faults accept.old) (N.content ended.old))
+        (front (A.content accept.new) (A.faults accept.new) (N.content ended.new)) }
     ensures texts { F.faults files.old ≤ F.faults files.new }
     ensures later { A.faults accept.old ≤ A.faults accept.new }
 {
@@ -141,7 +142,7 @@ fn serve_file<
 }
 
 /// Serves the visitors at the address of this text of a file.
-#[tactic(auto, using(td_shared_sessions::specs::HallLaws::hands_none))]
+#[tactic(auto, using(td_shared_sessions::specs::JobSourceLaws::hands_none))]
 fn serve_text<
     A: Accept,
     G: Gate,
@@ -152,8 +153,8 @@ fn serve_text<
     ensures serves { ServesText
         (λ v. outside (A.S.left v.source) (A.S.faults v.source) (A.K.written v.sink)
         (A.K.faults v.sink)) (λ v. A.W.word_after v.words) text.now result
-        (front (A.told accept.old) (A.faults accept.old) (N.told ended.old))
-        (front (A.told accept.new) (A.faults accept.new) (N.told ended.new)) }
+        (front (A.content accept.old) (A.faults accept.old) (N.content ended.old))
+        (front (A.content accept.new) (A.faults accept.new) (N.content ended.new)) }
     ensures later { A.faults accept.old ≤ A.faults accept.new }
 {
     match read_file(alloc, text) {
@@ -175,8 +176,9 @@ fn serve_opening<
     ensures serves { ServesOpening
         (λ v. outside (A.S.left v.source) (A.S.faults v.source) (A.K.written v.sink)
         (A.K.faults v.sink)) (λ v. A.W.word_after v.words)
-        (seen opened) result (front (A.told accept.old) (A.faults accept.old) (N.told ended.old))
-        (front (A.told accept.new) (A.faults accept.new) (N.told ended.new)) }
+        (seen opened) result (front (A.content accept.old) (A.faults accept.old)
+        (N.content ended.old))
+        (front (A.content accept.new) (A.faults accept.new) (N.content ended.new)) }
     ensures later { A.faults accept.old ≤ A.faults accept.new }
 {
     let Opened { home, seed, solo } = opened;

@@ -1,7 +1,7 @@
 //! The ends of a server that doesn't serve all visitors, with their statuses and lines.
 
 use crate::messages::NEXT;
-use crate::visitors::{Told, ends, guest};
+use crate::visitors::{Reported, ends, guest};
 use std::alloc::Global;
 use std::sync::Wait;
 use std::test::Fail;
@@ -17,14 +17,14 @@ fn comes<R: Threads + Wait + Sync>(
     alloc: Global,
     line: &str,
     failing: &[u64],
-    told: Told,
+    content: Reported,
     sessions: usize,
 ) -> Result<bool, Memory> {
     let mut guests = List::new(alloc);
     guests.push(guest(alloc, NEXT)?)?;
     let mut accept = MemAccept::new(alloc, guests, List::from_slice(alloc, failing)?);
     let mut ended = KeepEnded::new(alloc)?;
-    let good = ends(rt, alloc, line, &NoGate, told, &mut accept, &mut ended)?;
+    let good = ends(rt, alloc, line, &NoGate, content, &mut accept, &mut ended)?;
     Ok(good && ended.shared_sessions().len() <= sessions && ended.closed().is_none())
 }
 
@@ -39,8 +39,8 @@ pipe offers shared
 offers listen shared";
 
 /// How a server ends that was never bound.
-const fn unbound(status: u8, line: &'static [u8]) -> Told {
-    Told {
+const fn unbound(status: u8, line: &'static [u8]) -> Reported {
+    Reported {
         status,
         line,
         bound: false,
@@ -60,7 +60,7 @@ fn other_words_are_no_command(rt: HostRuntime) -> Result<(), Fail> {
 }
 
 #[test]
-fn a_refused_or_missing_file_is_told(rt: HostRuntime) -> Result<(), Fail> {
+fn a_refused_or_missing_file_is_reported(rt: HostRuntime) -> Result<(), Fail> {
     let alloc = rt.alloc();
     let broken = unbound(3, b"line 3: words\n");
     assert!(rt;
@@ -76,8 +76,8 @@ fn a_refused_or_missing_file_is_told(rt: HostRuntime) -> Result<(), Fail> {
 }
 
 /// The acceptor failed, when it was bound or not.
-const fn failed(bound: bool) -> Told {
-    Told {
+const fn failed(bound: bool) -> Reported {
+    Reported {
         status: 11,
         line: b"status 11\n",
         bound,

@@ -57,7 +57,7 @@ pub(crate) fn guest(alloc: Global, sends: &[u8]) -> Result<Guest, Memory> {
 
 /// How a server is to end: its status, its line, and whether its acceptor is bound once, to the address of its file.
 #[derive(Clone, Copy)]
-pub(crate) struct Told {
+pub(crate) struct Reported {
     pub status: u8,
     pub line: &'static [u8],
     pub bound: bool,
@@ -69,7 +69,7 @@ pub(crate) fn ends<G: Gate, R: Threads + Wait + Sync>(
     alloc: Global,
     line: &str,
     gate: &G,
-    told: Told,
+    content: Reported,
     accept: &mut Guests,
     ended: &mut KeepEnded<Guest, KeptSharedJournal>,
 ) -> Result<bool, Memory> {
@@ -86,7 +86,11 @@ pub(crate) fn ends<G: Gate, R: Threads + Wait + Sync>(
         &mut faults,
         ended,
     );
-    Ok(status == told.status && faults.written() == told.line && is_bound(accept) == told.bound)
+    Ok(
+        status == content.status
+            && faults.written() == content.line
+            && is_bound(accept) == content.bound,
+    )
 }
 
 /// Whether the acceptor was bound once, to the host `h`, port 9.
@@ -153,13 +157,13 @@ fn goes_on<R: Threads + Wait + Sync>(rt: &R, alloc: Global) -> Result<bool, Memo
         has_left: AtomicU64::new(0),
     };
     let mut ended = KeepEnded::new(alloc)?;
-    let told = Told {
+    let content = Reported {
         status: 0,
         line: b"",
         bound: true,
     };
     let line = "listen offers shared";
-    let served = ends(rt, alloc, line, &gate, told, &mut accept, &mut ended)?;
+    let served = ends(rt, alloc, line, &gate, content, &mut accept, &mut ended)?;
     Ok(served && have_gone_on(&ended))
 }
 

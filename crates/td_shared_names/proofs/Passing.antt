@@ -3,17 +3,17 @@ use Rattle.std.proofs.Common.{◌≡◌, ℕ, ◌+◌, ◌-◌, ◌<◌, ◌≤�
 use Rattle.std.proofs.Common.{subst, arith, length-append}
 use Rattle.std.proofs.lemmas.List.{length-set}
 use Rattle.td_cdr.specs.Marks.{In}
-use Rattle.td_cell.specs.Passes.{SameCell, knowledge, opened}
+use Rattle.td_cell.specs.Passes.{SameCell, knowledge, opened_book}
 use Rattle.td_cell.specs.Rules.{Before, all_met}
 use Rattle.td_cell.specs.declared.book.Book.{Ghosts}
 use Rattle.td_cell.specs.declared.cell.Cell.{Cell}
 use Rattle.td_cell.specs.declared.pass.Pass.{Pass}
 use Rattle.td_cell.specs.declared.pass.View.{View as Knowledge}
 use Rattle.td_naming.specs.Histories.{Past}
-use Rattle.td_shared_names.specs.Acting.{GoesOn, size_of}
+use Rattle.td_shared_names.specs.Acting.{ExtendsPast, size_of}
 use Rattle.td_shared_names.specs.BookLaws.{goes_on_itself, goes_on_more}
-use Rattle.td_shared_names.specs.Seeing.{IsSound, past_of}
-use Rattle.td_shared_names.specs.Sharing.{IsClosed, IsFresh, IsOpeningOf, IsOut, IsUnchanged, Meets, OutStays}
+use Rattle.td_shared_names.specs.Seeing.{IsLegalPast, past_of}
+use Rattle.td_shared_names.specs.Sharing.{IsTakenOut, IsPutIn, IsOpeningOf, IsOut, IsUnchanged, MeetsPass, OutStays}
 use Rattle.td_shared_names.specs.Sharing.{SamePass, SplitsOff}
 use Rattle.td_shared_names.proofs.Seen.{before_one, one_is, some_one, sound_on}
 
@@ -24,7 +24,7 @@ module _ {A R : Type 0} {g : Ghosts Past A R} where
   same_past p q e = one_is (knowledge q).seen q.knows (past_of p) (e ∙ some_one (knowledge p).seen p.knows)
 
   pub fresh_opening : (n : Past) (c : Cell Past A R) (p : Pass Past A R g) → p.seat.table_id ≡ c.table.shared.table_id
-      → (knowledge p).number ≡ 0 → IsFresh n c p → IsOpeningOf c p
+      → (knowledge p).number ≡ 0 → IsPutIn n c p → IsOpeningOf c p
   fresh_opening n c p belongs opening f =
       let is : past_of p ≡ n =
       one_is (knowledge p).seen p.knows n (ap (λ (v : Knowledge Past). v.seen) f.seen) in
@@ -32,8 +32,8 @@ module _ {A R : Type 0} {g : Ghosts Past A R} where
         belongs = belongs;
         opening = opening;
         seen =
-            subst (λ (x : Past). GoesOn x (past_of p)) (sym f.opened_is)
-            (subst (GoesOn n) (sym is) (goes_on_itself n));
+            subst (λ (x : Past). ExtendsPast x (past_of p)) (sym f.opened_is)
+            (subst (ExtendsPast n) (sym is) (goes_on_itself n));
       }
 
   still_opening : (c : Cell Past A R) (p q : Pass Past A R g) → IsOpeningOf c p → SameCell q p
@@ -41,7 +41,7 @@ module _ {A R : Type 0} {g : Ghosts Past A R} where
   still_opening c p q o cell number seen = record {
     belongs = cell ∙ o.belongs;
     opening = number ∙ o.opening;
-    seen = subst (GoesOn (opened c)) (sym (same_past p q seen)) o.seen;
+    seen = subst (ExtendsPast (opened_book c)) (sym (same_past p q seen)) o.seen;
   }
 
   pub opening_split : (c : Cell Past A R) (p t q : Pass Past A R g) → IsOpeningOf c p → SplitsOff p t q
@@ -56,16 +56,16 @@ module _ {A R : Type 0} {g : Ghosts Past A R} where
       still_opening c p q o s.same_cell (ap (λ (v : Knowledge Past). v.number) s.knows)
       (ap (λ (v : Knowledge Past). v.seen) s.knows)
 
-  pub opening_met : (c : Cell Past A R) (p t q : Pass Past A R g) → IsOpeningOf c p → Meets p t q → IsOpeningOf c q
+  pub opening_met : (c : Cell Past A R) (p t q : Pass Past A R g) → IsOpeningOf c p → MeetsPass p t q → IsOpeningOf c q
   opening_met c p t q o m =
       let l = m.learned in
-      let to_book : GoesOn (past_of p) l.book = before_one (knowledge p).seen p.knows l.book l.before.0 in
+      let to_book : ExtendsPast (past_of p) l.book = before_one (knowledge p).seen p.knows l.book l.before.0 in
       let is : past_of q ≡ l.book =
       one_is (knowledge q).seen q.knows l.book (ap (λ (v : Knowledge Past). v.seen) l.is) in
       record {
         belongs = m.same_cell ∙ o.belongs;
         opening = m.opening;
-        seen = subst (GoesOn (opened c)) (sym is) (goes_on_more (opened c) (past_of p) l.book o.seen to_book);
+        seen = subst (ExtendsPast (opened_book c)) (sym is) (goes_on_more (opened_book c) (past_of p) l.book o.seen to_book);
       }
 
   -- ---- a session's pass
@@ -103,7 +103,7 @@ module _ {A R : Type 0} {g : Ghosts Past A R} where
       ap (λ (v : Knowledge Past). length v.met) s.knows in
       λ u. out_on p q u s.same_cell (omega arith)
 
-  pub meet_keeps_out : (p t q : Pass Past A R g) → Meets p t q → OutStays p q
+  pub meet_keeps_out : (p t q : Pass Past A R g) → MeetsPass p t q → OutStays p q
   meet_keeps_out p t q m =
       let same : length (knowledge q).met ≡ length (knowledge p).met =
       ap length m.met ∙ length-set (knowledge p).met ((knowledge t).number - 1) true in
@@ -125,19 +125,19 @@ module _ {A R : Type 0} {g : Ghosts Past A R} where
   split_past p t q s = same_past p t (ap (λ (v : Knowledge Past). v.seen) s.out)
 
   pub split_home : (c : Cell Past A R) (p t q : Pass Past A R g) → IsOpeningOf c p → SplitsOff p t q
-      → (past_of t).home ≡ (opened c).home
+      → (past_of t).home ≡ (opened_book c).home
   split_home c p t q o s = ap (λ (x : Past). x.home) (split_past p t q s) ∙ o.seen.home
 
   pub split_sound : (c : Cell Past A R) (p t q : Pass Past A R g) → IsOpeningOf c p → SplitsOff p t q
-      → IsSound (opened c) → IsSound (past_of t)
+      → IsLegalPast (opened_book c) → IsLegalPast (past_of t)
   split_sound c p t q o s h =
-      subst IsSound (sym (split_past p t q s)) (sound_on (opened c) (past_of p) o.seen h)
+      subst IsLegalPast (sym (split_past p t q s)) (sound_on (opened_book c) (past_of p) o.seen h)
 
   -- ---- the end
 
   pub taken_out : (c : Cell Past A R) (p : Pass Past A R g) (n : Past) → all_met (knowledge p).met ≡ true
-      → Before GoesOn (knowledge p).seen n → GoesOn (opened c) n
-      → ((k : ℕ) → size_of (opened c) ≤ k → k < size_of n → In k (knowledge p).own) → IsClosed c p n
+      → Before ExtendsPast (knowledge p).seen n → ExtendsPast (opened_book c) n
+      → ((k : ℕ) → size_of (opened_book c) ≤ k → k < size_of n → In k (knowledge p).own) → IsTakenOut c p n
   taken_out c p n met before since places = record {
     met = met;
     since = since;

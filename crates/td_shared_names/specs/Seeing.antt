@@ -3,7 +3,7 @@ use Rattle.std.specs.Coded.{Coded, Coded-set, Unit-prop, coded_bool, le_prop, ×
 use Rattle.std.specs.Prelude.{ℕ, List, [], ◌∷◌, Option, Some, None, IsSome}
 use Rattle.std.proofs.lemmas.Bool.{false≢true}
 use Rattle.td_cell.specs.Passes.{knowledge}
-use Rattle.td_cell.specs.Rules.{Turned}
+use Rattle.td_cell.specs.Rules.{ActsOnce}
 use Rattle.td_cell.specs.declared.book.Book.{Ghosts}
 use Rattle.td_cell.specs.declared.pass.Pass.{Pass}
 use Rattle.td_cell.specs.declared.pass.View.{View as Knowledge}
@@ -15,7 +15,7 @@ use Rattle.td_names.specs.declared.address.Address.{Address}
 use Rattle.td_naming.specs.Histories.{IsAccepted, Legal, LegalFrom, Past, after_change}
 use Rattle.td_naming.specs.Views.{View}
 use Rattle.td_naming.specs.declared.history.NameChange.{NameChange}
-use Rattle.td_shared_names.specs.Acting.{Acts, GoesOn, no_marks, size_of}
+use Rattle.td_shared_names.specs.Acting.{NamesAct, ExtendsPast, no_marks, size_of}
 use Rattle.td_shared_names.specs.declared.book.Act.{Act}
 use Rattle.td_shared_names.specs.declared.book.Reply.{Reply}
 
@@ -47,14 +47,14 @@ abbrev pub any_changes : List NameChange → Type 0
 any_changes between = Unit {0}
 
 -- one turn: what others did is there, and then the act is done, once
-abbrev pub Turns : Knowledge Past → Act → Reply → Knowledge Past → Type 0
-Turns v a r w = Turned GoesOn size_of (λ p. no_marks) Acts v a r w
+abbrev pub ActsInTurn : Knowledge Past → Act → Reply → Knowledge Past → Type 0
+ActsInTurn v a r w = ActsOnce ExtendsPast size_of (λ p. no_marks) NamesAct v a r w
 
 -- ---- what is always so of them
 
 -- they are reached at an address, and their history is legal
-abbrev pub IsSound : Past → Type 0
-IsSound p = IsAddress p.home × Legal p.home p.history
+abbrev pub IsLegalPast : Past → Type 0
+IsLegalPast p = IsAddress p.home × Legal p.home p.history
 
 -- that it is so can be shown in one way at most
 
@@ -78,5 +78,5 @@ address_prop home p q = λ i. record {
   port = le_prop p.port q.port i;
 }
 
-pub sound_prop : (p : Past) → IsProp (IsSound p)
+pub sound_prop : (p : Past) → IsProp (IsLegalPast p)
 sound_prop p = ×_prop (address_prop p.home) (legal_prop _ p.history)

@@ -25,8 +25,8 @@ pub enum Reply {
     Live(bool),
 }
 
-/// Naming contexts that stand in a cell, with the allocator by which they grow. Contracts see where they are reached and
-/// their history.
+/// Naming contexts that stand in a cell, with the allocator by which they grow. Contracts see where they are reached
+/// and their history.
 #[derive(Drop)]
 pub struct NameBook {
     pub(crate) alloc: Global,
@@ -49,15 +49,15 @@ impl Book for NameBook {
 
     type Reply = Reply;
 
-    ghost use Rattle.td_shared_names.specs.Acting.{Acts, GoesOn, no_marks, size_of};
+    ghost use Rattle.td_shared_names.specs.Acting.{NamesAct, ExtendsPast, no_marks, size_of};
 
     ghost size = { size_of };
 
     ghost remembers = { λ _. no_marks };
 
-    ghost later = { GoesOn };
+    ghost later = { ExtendsPast };
 
-    ghost acts = { Acts };
+    ghost acts = { NamesAct };
 
     /// Does what the contexts' own method does.
     fn act(&mut self, a: Act) -> Reply {

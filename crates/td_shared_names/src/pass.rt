@@ -2,11 +2,11 @@
 
 ghost use Rattle.std.specs.Prelude.{◌≡◌, ◌+◌, IfOk, OnErr};
 ghost use Rattle.td_cell.specs.Passes.{knowledge};
-ghost use Rattle.td_naming.specs.Views.{Acts, Meanwhile, Looks};
-ghost use Rattle.td_shared_names.specs.Seeing.{IsSound, Turns, any_changes, past_of, seen_by, sound_prop};
+ghost use Rattle.td_naming.specs.Views.{NamingActs, Meanwhile, LooksAtContext};
+ghost use Rattle.td_shared_names.specs.Seeing.{IsLegalPast, ActsInTurn, any_changes, past_of, seen_by, sound_prop};
 ghost use Rattle.td_shared_names.specs.Sharing.{SamePass};
 ghost use Rattle.td_shared_names.specs.declared.book.Act.TheVariants as asked;
-ghost use Rattle.td_shared_names.specs.declared.book.Reply.TheVariants as told;
+ghost use Rattle.td_shared_names.specs.declared.book.Reply.TheVariants as content;
 
 use crate::book::{Act, NameBook, Reply};
 use std::alloc::Global;
@@ -17,8 +17,8 @@ use td_names::{Address, NameAct, NameAnswer};
 use td_naming::Names;
 
 /// What one session calls shared naming contexts through: it keeps what the session has seen of them, and the places of
-/// the changes that it made. Each `act` and each `live` waits for the contexts' turn and makes one; the other calls make
-/// none.
+/// the changes that it made. Each `act` and each `live` waits for the contexts' turn and makes one; the other calls
+/// make none.
 #[derive(Drop)]
 pub struct NamePass<'a, R: Wait> {
     rt: &'a R,
@@ -27,7 +27,7 @@ pub struct NamePass<'a, R: Wait> {
     pass: Pass<NameBook>,
     ghost belongs: { pass.seat.table_id ≡ cell.now.table.shared.table_id },
     ghost here: { (past_of pass).home ≡ home.now },
-    ghost sound: { IsSound (past_of pass) } by { sound_prop (past_of pass) },
+    ghost sound: { IsLegalPast (past_of pass) } by { sound_prop (past_of pass) },
 }
 
 impl<'a, R: Wait> NamePass<'a, R> {
@@ -40,7 +40,7 @@ impl<'a, R: Wait> NamePass<'a, R> {
     ) -> NamePass<'a, R>
         requires belongs { pass.seat.table_id ≡ cell.now.table.shared.table_id }
         requires here { (past_of pass).home ≡ home.now }
-        requires sound { IsSound (past_of pass) }
+        requires sound { IsLegalPast (past_of pass) }
         ensures pass { result.pass ≡ pass }
         ensures cell { result.cell.now ≡ cell.now }
     {
@@ -62,7 +62,7 @@ impl<'a, R: Wait> NamePass<'a, R> {
     /// One turn.
     fn turn(&mut self, a: Act) -> Reply
         ensures same { SamePass self.old.pass self.new.pass }
-        ensures turned { Turns (knowledge self.old.pass) a result (knowledge self.new.pass) }
+        ensures turned { ActsInTurn (knowledge self.old.pass) a result (knowledge self.new.pass) }
         ensures once { (knowledge self.new.pass).turns ≡ (knowledge self.old.pass).turns + 1 }
     {
         self.cell.turn(self.rt, &mut self.pass, a)
@@ -80,11 +80,12 @@ impl<'a, R: Wait> Names for NamePass<'a, R> {
     fn act(&mut self, _alloc: Global, context: u32, act: NameAct) -> Result<NameAnswer, Memory>
         ensures same { SamePass self.old.pass self.new.pass }
         ensures ok { IfOk result
-            (λ r. Acts any_changes (seen_by self.old.pass) context act r (seen_by self.new.pass)) }
+            (λ r. NamingActs any_changes (seen_by self.old.pass) context act r
+            (seen_by self.new.pass)) }
         ensures err { OnErr result (Meanwhile any_changes (seen_by self.old.pass)
             (seen_by self.new.pass)) }
-        ensures turned { Turns (knowledge self.old.pass) (asked.Call context act)
-            (told.Called result) (knowledge self.new.pass) }
+        ensures turned { ActsInTurn (knowledge self.old.pass) (asked.Call context act)
+            (content.Called result) (knowledge self.new.pass) }
         ensures once { (knowledge self.new.pass).turns ≡ (knowledge self.old.pass).turns + 1 }
     {
         match self.turn(Act::Call { context, act }) {
@@ -96,9 +97,10 @@ impl<'a, R: Wait> Names for NamePass<'a, R> {
     /// Makes one turn. Takes no memory.
     fn live(&mut self, context: u32) -> bool
         ensures same { SamePass self.old.pass self.new.pass }
-        ensures live { Looks any_changes (seen_by self.old.pass) context result
+        ensures live { LooksAtContext any_changes (seen_by self.old.pass) context result
             (seen_by self.new.pass) }
-        ensures turned { Turns (knowledge self.old.pass) (asked.Live context) (told.Live result)
+        ensures turned { ActsInTurn (knowledge self.old.pass) (asked.Live context)
+            (content.Live result)
             (knowledge self.new.pass) }
         ensures once { (knowledge self.new.pass).turns ≡ (knowledge self.old.pass).turns + 1 }
     {

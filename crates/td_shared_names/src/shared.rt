@@ -1,10 +1,11 @@
 //! Naming contexts that passes share.
 
 ghost use Rattle.std.specs.Prelude.{◌≡◌, IfOk, IfErr, OnErr, false};
-ghost use Rattle.td_cell.specs.Passes.{knowledge, opened};
+ghost use Rattle.td_cell.specs.Passes.{knowledge, opened_book};
 ghost use Rattle.td_cell.specs.Rules.{all_met};
-ghost use Rattle.td_shared_names.specs.Seeing.{IsSound, sound_prop};
-ghost use Rattle.td_shared_names.specs.Sharing.{IsClosed, IsFresh, IsOpeningOf, IsOut, IsReady, IsUnchanged, Meets};
+ghost use Rattle.td_shared_names.specs.Seeing.{IsLegalPast, sound_prop};
+ghost use Rattle.td_shared_names.specs.Sharing.{IsTakenOut, IsPutIn, IsOpeningOf, IsOut, IsReady, IsUnchanged};
+ghost use Rattle.td_shared_names.specs.Sharing.{MeetsPass};
 ghost use Rattle.td_shared_names.specs.Sharing.{OutStays, SplitsOff};
 
 use crate::book::NameBook;
@@ -21,8 +22,8 @@ use td_naming::Naming;
 pub struct SharedNames {
     home: Address,
     cell: Cell<NameBook>,
-    ghost here: { home ≡ (opened cell).home },
-    ghost sound: { IsSound (opened cell) } by { sound_prop (opened cell) },
+    ghost here: { home ≡ (opened_book cell).home },
+    ghost sound: { IsLegalPast (opened_book cell) } by { sound_prop (opened_book cell) },
 }
 
 impl SharedNames {
@@ -30,9 +31,9 @@ impl SharedNames {
     ///
     /// # Errors
     ///
-    /// `Memory` for want of memory alone. The contexts are then dropped.
+    /// `Memory` only when out of memory. The contexts are then dropped.
     pub fn open(alloc: Global, naming: Naming) -> Result<(SharedNames, Pass<NameBook>), Memory>
-        ensures fresh { IfOk result (λ r. IsFresh naming r.0.cell r.1) }
+        ensures fresh { IfOk result (λ r. IsPutIn naming r.0.cell r.1) }
         ensures opening { IfOk result (λ r. IsOpeningOf r.0.cell r.1) }
     {
         let home = home_of(alloc, &naming)?;
@@ -69,7 +70,7 @@ impl SharedNames {
         requires opening { IsOpeningOf self.now.cell pass.old }
         requires out { IsOut pass.old ended.pass }
         ensures opening { IsOpeningOf self.now.cell pass.new }
-        ensures met { Meets pass.old ended.entry.pass pass.new }
+        ensures met { MeetsPass pass.old ended.entry.pass pass.new }
         ensures stays { OutStays pass.old pass.new }
     {
         self.meet(pass, ended.into_pass());
@@ -80,7 +81,7 @@ impl SharedNames {
         requires opening { IsOpeningOf self.now.cell pass.old }
         requires out { IsOut pass.old ended }
         ensures opening { IsOpeningOf self.now.cell pass.new }
-        ensures met { Meets pass.old ended pass.new }
+        ensures met { MeetsPass pass.old ended pass.new }
         ensures stays { OutStays pass.old pass.new }
     {
         self.cell.meet(pass, ended)
@@ -94,7 +95,7 @@ impl SharedNames {
     /// Both, unchanged, exactly where a pass that was split off hasn't been taken in.
     pub fn close(self, pass: Pass<NameBook>) -> Result<Naming, (SharedNames, Pass<NameBook>)>
         requires { IsOpeningOf self.cell pass }
-        ensures closed { IfOk result (λ n. IsClosed self.cell pass n) }
+        ensures closed { IfOk result (λ n. IsTakenOut self.cell pass n) }
         ensures err { IfErr result (λ r. (all_met (knowledge pass).met ≡ false)
             × (r ≡ (self, pass))) }
     {
@@ -110,7 +111,7 @@ impl SharedNames {
 /// Where contexts are reached. Their history is legal, as `point` tells.
 fn home_of(alloc: Global, naming: &Naming) -> Result<Address, Memory>
     ensures home { IfOk result (λ home. home ≡ naming.now.home) }
-    ensures sound { IsSound naming.now }
+    ensures sound { IsLegalPast naming.now }
 {
     let _ = naming.point();
     let home = naming.home();
@@ -124,7 +125,7 @@ fn home_of(alloc: Global, naming: &Naming) -> Result<Address, Memory>
 /// Takes contexts out of their cell, all of whose passes were taken in.
 fn close_met(cell: Cell<NameBook>, pass: Pass<NameBook>) -> Naming
     requires { IsReady cell pass }
-    ensures { IsClosed cell pass result }
+    ensures { IsTakenOut cell pass result }
 {
     match cell.close(pass) {
         Ok(book) => {

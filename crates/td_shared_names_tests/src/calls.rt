@@ -2,10 +2,10 @@
 
 use std::alloc::Global;
 use td_cdr::{List, Memory, Text};
-use td_codes::Ior;
 use td_ior::nil;
 use td_names::{NameAct, NameAnswer, NameComponent, NameException, NameReply, context_reference};
 use td_naming::{Names, Naming};
+use td_typecode::Ior;
 
 /// Naming contexts at `here`, port 1: the root alone.
 pub(crate) fn root_alone(alloc: Global) -> Result<Naming, Memory> {
@@ -13,8 +13,8 @@ pub(crate) fn root_alone(alloc: Global) -> Result<Naming, Memory> {
     Naming::new(alloc, host, 1)
 }
 
-/// Whether contexts answer as a line says: a context's number, a call, the letters of a name's ids or `-`, ` = `, and the
-/// words of the answers that may come, with `|` between them.
+/// Whether contexts answer as a line says: a context's number, a call, the letters of a name's ids or `-`, ` = `, and
+/// the words of the answers that may come, with `|` between them.
 pub(crate) fn is_so<N: Names>(alloc: Global, names: &mut N, line: &str) -> bool
     ensures { N.same names.old names.new }
 {

@@ -10,14 +10,14 @@ use Rattle.td_cdr.proofs.list.List.TheSendSync as list_cross
 use Rattle.td_cdr.proofs.text.Text.TheSendSync as text_cross
 use Rattle.td_cell.proofs.cell.Cell.TheSendSync as cell_cross
 use Rattle.td_cell.proofs.pass.Pass.TheSendSync as pass_cross
-use Rattle.td_codes.proofs.reference.Ior.TheSendSync as ior_cross
+use Rattle.td_typecode.proofs.reference.Ior.TheSendSync as ior_cross
 use Rattle.td_desk.specs.contracts.book.DeskBook as book
 use Rattle.td_desk.specs.contracts.book.DeskBook.TheInside as book_inside
 use Rattle.td_desk.specs.contracts.shared.SharedDesk as desk
-use Rattle.td_iter.specs.contracts.desk.Entry as iterator
+use Rattle.td_iter.specs.contracts.desk.DeskEntry as iterator
 use Rattle.td_iter.specs.contracts.item.Item as item
-use Rattle.td_past.proofs.past.Past.TheLaws.TheKnot.{send-Past}
-use Rattle.td_reply.specs.contracts.entry.Entry as entry
+use Rattle.td_ghost_list.proofs.past.Past.TheLaws.TheKnot.{send-Past}
+use Rattle.td_servant.specs.contracts.entry.Entry as entry
 use Rattle.td_group.proofs.Sends.{any_send, offer_send}
 use Rattle.td_shared.specs.contracts.entry.SharedEntry as shared_entry
 use Rattle.td_shared.specs.contracts.kept.KeptSharedJournal as kept

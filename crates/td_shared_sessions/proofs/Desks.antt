@@ -4,12 +4,12 @@ use Rattle.std.proofs.Common.{subst, arith, length-append}
 use Rattle.std.proofs.lemmas.List.{length-set}
 use Rattle.td_cell.specs.Lists.{Rises, itself}
 use Rattle.td_cell.specs.Passes.{IsOpening, SameCell, SameNumbers, knowledge}
-use Rattle.td_cell.specs.Rules.{Before, Learns, first_view, meeting, opener, split_off}
+use Rattle.td_cell.specs.Rules.{Before, Learns, first_view, met_view, opener, split_off}
 use Rattle.td_cell.specs.declared.book.Book.{Ghosts}
 use Rattle.td_cell.specs.declared.cell.Cell.{Cell}
 use Rattle.td_cell.specs.declared.pass.Pass.{Pass}
 use Rattle.td_cell.specs.declared.pass.View.{View as Knowledge}
-use Rattle.td_desk.specs.Acting.{GoesOn, no_marks}
+use Rattle.td_desk.specs.Acting.{ExtendsHistory, no_marks}
 use Rattle.td_desk.specs.declared.event.Event.{Event}
 use Rattle.td_shared.specs.DeskSeen.{DeskJoins, DeskSeen, bare_desk, desk_seen, history_or_none}
 use Rattle.td_shared_sessions.specs.Desks.{IsOutOf, OpensDesk}
@@ -32,19 +32,19 @@ desk_keeps v w is = ap desk_seen is
 pub desk_is_new : (v : Known) → v ≡ first_view [] 0 0 → desk_seen v ≡ new_desk
 desk_is_new v is = ap desk_seen is
 
-before_seen : (o : Option (List Event)) (h : List Event) → Before GoesOn o h → GoesOn (history_or_none o) h
+before_seen : (o : Option (List Event)) (h : List Event) → Before ExtendsHistory o h → ExtendsHistory (history_or_none o) h
 before_seen None h b = record { rest = h; is = refl }
 before_seen (Some a) h b = b
 
 -- what a session has seen and done is taken in
-pub desk_joins : (v w u : Known) → Learns GoesOn (length {A = Event}) (λ (h : List Event). no_marks) (meeting v w) u
+pub desk_joins : (v w u : Known) → Learns ExtendsHistory (length {A = Event}) (λ (h : List Event). no_marks) (met_view v w) u
     → DeskJoins (desk_seen v) (desk_seen w) (desk_seen u)
 desk_joins v w u l =
     let same : history_or_none u.seen ≡ l.book = ap (λ (k : Known). history_or_none k.seen) l.is in
     let own = ap (λ (k : Known). k.own) l.is in
     record {
-      before = subst (GoesOn (history_or_none v.seen)) (sym same) (before_seen v.seen l.book l.before.0);
-      seen = subst (GoesOn (history_or_none w.seen)) (sym same) (before_seen w.seen l.book l.before.1);
+      before = subst (ExtendsHistory (history_or_none v.seen)) (sym same) (before_seen v.seen l.book l.before.0);
+      seen = subst (ExtendsHistory (history_or_none w.seen)) (sym same) (before_seen w.seen l.book l.before.1);
       own = own;
       apart = subst (Rises itself) (sym own) l.places;
     }
@@ -96,7 +96,7 @@ module _ {A R : Type 0} {g : Ghosts (List Event) A R} where
       out_on p q t cell (omega arith)
 
   pub meet_keeps_out : (p s q : Pass (List Event) A R g) → SameCell q p
-      → Learns GoesOn (length {A = Event}) (λ (h : List Event). no_marks) (meeting (knowledge p) (knowledge s))
+      → Learns ExtendsHistory (length {A = Event}) (λ (h : List Event). no_marks) (met_view (knowledge p) (knowledge s))
       (knowledge q) → (t : Pass (List Event) A R g) → IsOutOf p t → IsOutOf q t
   meet_keeps_out p s q cell l t =
       let same : length (knowledge q).met ≡ length (knowledge p).met =

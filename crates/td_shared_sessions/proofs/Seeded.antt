@@ -4,8 +4,8 @@ use Rattle.td_cdr.specs.Marks.{Later, Marks}
 use Rattle.td_cell.specs.declared.pass.View.{View as Knowledge}
 use Rattle.td_desk.specs.declared.event.Event.{Event}
 use Rattle.td_register.specs.declared.history.Accepted.{Accepted}
-use Rattle.td_reply.specs.Linking.{PeersSeen, peers_seen}
-use Rattle.td_serve.specs.Backends.{BackendSeen, backend_seen}
+use Rattle.td_servant.specs.Linking.{PeersSeen, peers_seen}
+use Rattle.td_dispatch.specs.Backends.{BackendSeen, backend_seen}
 use Rattle.td_shared.specs.DeskSeen.{desk_seen}
 use Rattle.td_shared.specs.Sessions.{ServesFrom}
 use Rattle.td_shared.specs.declared.entry.SharedEntry.{SharedEntry}

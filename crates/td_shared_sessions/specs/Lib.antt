@@ -1,5 +1,5 @@
 pub mod Desks
-pub mod HallLaws
+pub mod JobSourceLaws
 pub mod Sessions
 pub mod Whole
 pub mod Worlds

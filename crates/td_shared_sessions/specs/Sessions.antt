@@ -6,12 +6,13 @@ use Rattle.td_cell.specs.declared.pass.View.{View as Knowledge}
 use Rattle.td_desk.specs.declared.event.Event.{Event}
 use Rattle.td_fed.specs.Trails.{own_at}
 use Rattle.td_register.specs.declared.history.Accepted.{Accepted}
-use Rattle.td_reply.specs.Linking.{peers_seen}
-use Rattle.td_serve.specs.Backends.{BackendSeen, backend_seen}
-use Rattle.td_server.specs.Kinds.{Kind}
+use Rattle.td_servant.specs.Linking.{peers_seen}
+use Rattle.td_dispatch.specs.Backends.{BackendSeen, backend_seen}
+use Rattle.td_server.specs.Kinds.{ServerKind}
 use Rattle.td_server.specs.Rows.{Rows}
-use Rattle.td_server.specs.Sessions.{Begun as BegunOf, Ended as EndedOf, HandsSome as HandsSomeOf}
-use Rattle.td_server.specs.Sessions.{Seeded as SeededWords, Serving as ServingOf, Stand as StandOf, Told as ToldOf}
+use Rattle.td_server.specs.Sessions.{SessionStart as BegunOf, SessionResult as EndedOf, HandsSome as HandsSomeOf}
+use Rattle.td_server.specs.Sessions.{WordsBySeeding as SeededWords, ServesSession as ServingOf, ServerState as StandOf}
+use Rattle.td_server.specs.Sessions.{HandedSessions as ToldOf}
 use Rattle.td_sessions.specs.Sessions.{Continues, Joins, bare}
 use Rattle.td_shared.specs.DeskSeen.{DeskContinues, DeskJoins, DeskSeen, bare_desk, desk_seen}
 use Rattle.td_shared.specs.Sessions.{ServesFrom}
@@ -89,7 +90,7 @@ pub record SharedKept : Type 0 where
 
 -- Its sessions share traders and a desk of iterators. Each is given the address where the traders are reached, whatever
 -- others do meanwhile, and in the end the traders are handed on.
-abbrev pub sharing : Kind
+abbrev pub sharing : ServerKind
 sharing = record {
   World = SharedWorld;
   Given = Address;
@@ -108,28 +109,29 @@ sharing = record {
 -- ---- its sessions
 
 -- the random words that come after each seeding
-abbrev pub Seeded : Type 0
-Seeded = SeededWords
+abbrev pub WordsBySeeding : Type 0
+WordsBySeeding = SeededWords
 
 -- the sessions that were handed on, in order, and the traders, once they were
-abbrev pub Told : Type 0 → Type 0
-Told X = ToldOf sharing X
+abbrev pub HandedSessions : Type 0 → Type 0
+HandedSessions X = ToldOf sharing X
 
 -- these sessions were handed on, and no traders
-abbrev pub HandsSome : {X : Type 0} → (told after : Option (Told X)) → Type 0
+abbrev pub HandsSome : {X : Type 0} → (content after : Option (HandedSessions X)) → Type 0
 HandsSome {X} = HandsSomeOf {k = sharing} {X = X}
 
 -- a session that begins, and one that has ended
-abbrev pub Begun : Type 0 → Type 0
-Begun X = BegunOf sharing X
+abbrev pub SessionStart : Type 0 → Type 0
+SessionStart X = BegunOf sharing X
 
-abbrev pub Ended : Type 0 → Type 0
-Ended X = EndedOf sharing X
+abbrev pub SessionResult : Type 0 → Type 0
+SessionResult X = EndedOf sharing X
 
 -- the session was served, whatever others did meanwhile
-abbrev pub Serving : {X : Type 0} → (X → Outside) → (X → Seeded) → Begun X → Ended X → Type 0
-Serving {X} = ServingOf {k = sharing} {X = X}
+abbrev pub ServesSession : {X : Type 0} → (X → Outside) → (X → WordsBySeeding) → SessionStart X
+    → SessionResult X → Type 0
+ServesSession {X} = ServingOf {k = sharing} {X = X}
 
 -- between two visitors
-abbrev pub Stand : Type 0 → Type 0
-Stand X = StandOf sharing X
+abbrev pub ServerState : Type 0 → Type 0
+ServerState X = StandOf sharing X

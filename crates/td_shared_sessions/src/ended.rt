@@ -2,7 +2,7 @@
 
 ghost use Rattle.std.specs.Prelude.{◌≡◌, [], None, Some, Option, IfOk, OnOk, OnErr, is_some, map, option_map};
 ghost use Rattle.td_server.specs.Sessions.{with_closed, with_session};
-ghost use Rattle.td_shared_sessions.specs.Sessions.{Told, sharing};
+ghost use Rattle.td_shared_sessions.specs.Sessions.{HandedSessions, sharing};
 
 use std::alloc::Global;
 use std::marker::PhantomData;
@@ -18,7 +18,7 @@ pub trait Ended<V> {
     type J: SharedJournal + Send + Drop;
 
     /// The sessions that were handed on, in order, and the traders once they were, where it tells.
-    ghost told: { Self → Option (Told V) };
+    ghost content: { Self → Option (HandedSessions V) };
 
     /// It is the same still: of a borrow, that no other was put in its place.
     ghost same: { Self → Self → Type 0 };
@@ -28,7 +28,7 @@ pub trait Ended<V> {
     ///
     /// # Errors
     ///
-    /// `Memory` for want of memory alone; the session is then dropped.
+    /// `Memory` only when out of memory; the session is then dropped.
     fn shared(
         &mut self,
         number: u64,
@@ -39,21 +39,21 @@ pub trait Ended<V> {
     ) -> Result<(), Memory>
         ensures same { same self.old self.new }
         ensures ok { OnOk result
-            (told self.new ≡ option_map (with_session {k = sharing}
+            (content self.new ≡ option_map (with_session {k = sharing}
             (record {
               number = number;
               visitor = visitor;
               limited = is_some limited;
               kept = record { end = end; journal = Self.J.entries journal };
             }))
-            (told self.old)) }
-        ensures err { OnErr result (told self.new ≡ told self.old) };
+            (content self.old)) }
+        ensures err { OnErr result (content self.new ≡ content self.old) };
 
     /// All sessions have ended.
     fn group(&mut self, solo: Solo)
         ensures same { same self.old self.new }
-        ensures told { told self.new ≡ option_map (with_closed {k = sharing} solo)
-            (told self.old) };
+        ensures content { content self.new ≡ option_map (with_closed {k = sharing} solo)
+            (content self.old) };
 
     ghost same_on: { (a b c : Self) → same a b → same b c → same a c };
 }
@@ -70,7 +70,7 @@ impl<V, J> KeepEnded<V, J> {
     ///
     /// # Errors
     ///
-    /// `Memory` for want of memory alone.
+    /// `Memory` only when out of memory.
     pub fn new(alloc: Global) -> Result<KeepEnded<V, J>, Memory>
         ensures { IfOk result (λ k. (k.sessions ≡ []) × (k.closed ≡ None)) }
     {
@@ -99,7 +99,7 @@ impl<V, J> KeepEnded<V, J> {
 impl<V: Drop, J: SharedJournal + Send + Drop> Ended<V> for KeepEnded<V, J> {
     type J = J;
 
-    ghost told = { λ k. Some (record {
+    ghost content = { λ k. Some (record {
       sessions = map (λ h. record {
         number = h.0;
         visitor = h.1;
@@ -147,7 +147,7 @@ impl<J> DropEnded<J> {
 impl<V: Drop, J: SharedJournal + Send + Drop> Ended<V> for DropEnded<J> {
     type J = J;
 
-    ghost told = { λ _. None };
+    ghost content = { λ _. None };
 
     ghost same = { λ _ _. Unit {0} };
 

@@ -3,7 +3,7 @@
 ghost use Rattle.std.specs.Prelude.{◌≡◌, map};
 ghost use Rattle.std.specs.List.{AllZip};
 ghost use Rattle.td_cell.specs.Passes.{knowledge};
-ghost use Rattle.td_group.specs.Grouping.{AreOpening, IsOut, Meets, SplitsOff};
+ghost use Rattle.td_group.specs.Grouping.{AreOpening, IsOut, MeetsPass, SplitsOff};
 ghost use Rattle.td_group.specs.Rows.{Rows};
 ghost use Rattle.td_group.specs.Seeing.{seen_by};
 ghost use Rattle.td_objects.specs.References.{IsAddress};
@@ -20,7 +20,7 @@ use td_accept::{ClientSink, ClientSource, ClientWire, Limited, Visitor};
 use td_cdr::Memory;
 use td_cell::Pass;
 use td_desk::{DeskPass, SharedDesk};
-use td_group::{Group, Stall};
+use td_group::{Group, SharedTrader};
 use td_out::Words;
 use td_server::Service;
 use td_walk::Address;
@@ -35,7 +35,7 @@ pub(crate) struct SharedService<'e, 'g, N, R> {
     pub(crate) home: &'g Address,
     pub(crate) ended: &'e mut N,
     /// The opening passes of the group.
-    pub(crate) passes: Vec<Pass<Stall>>,
+    pub(crate) passes: Vec<Pass<SharedTrader>>,
     /// The opening pass of the desk.
     pub(crate) desk_pass: DeskPass,
 }
@@ -77,7 +77,7 @@ where
     ghost seen = { λ a. shared_world (map seen_by a.passes.items)
         (desk_seen (knowledge a.desk_pass)) };
 
-    ghost told = { λ a. N.told a.ended.now };
+    ghost content = { λ a. N.content a.ended.now };
 
     ghost goes = { λ a b. (a.ended.ghost_name ≡ b.ended.ghost_name) × (b.group ≡ a.group)
         × (b.desk ≡ a.desk) × (b.home ≡ a.home) };
@@ -90,7 +90,7 @@ where
 
     ghost begins = { λ a p b. Rows SplitsOff a.passes.items p.traders.passes.items b.passes.items };
 
-    ghost ends = { λ a q b. Rows Meets a.passes.items q.traders.passes.items b.passes.items };
+    ghost ends = { λ a q b. Rows MeetsPass a.passes.items q.traders.passes.items b.passes.items };
 
     ghost use Rattle.std.proofs.Common.{refl, ap, ◌∙◌};
     ghost use Rattle.td_shared_sessions.specs.Worlds.{sharing_laws};

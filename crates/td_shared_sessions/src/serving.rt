@@ -1,7 +1,7 @@
 //! The sessions of all visitors over a group of traders and a desk of iterators.
 
 ghost use Rattle.std.specs.Prelude.{◌≡◌, ◌≤◌, length, map, true, IfErr, IfOk, OnErr, OnOk};
-ghost use Rattle.td_cell.specs.Passes.{knowledge, opened};
+ghost use Rattle.td_cell.specs.Passes.{knowledge, opened_book};
 ghost use Rattle.td_group.specs.Grouping.{AreOpening, are_met};
 ghost use Rattle.td_group.specs.Seeing.{seen_by};
 ghost use Rattle.td_objects.specs.References.{IsAddress};
@@ -10,7 +10,7 @@ ghost use Rattle.td_sessions.specs.Whole.{opened_views};
 ghost use Rattle.td_shared.specs.DeskSeen.{desk_seen};
 ghost use Rattle.td_shared_sessions.specs.Desks.{OpensDesk};
 ghost use Rattle.td_shared_sessions.specs.Sessions.{HandsSome, shared_world};
-ghost use Rattle.td_shared_sessions.specs.Whole.{HandsOn, ServesAll, ServesFrom, Whole, new_desk, opened_world};
+ghost use Rattle.td_shared_sessions.specs.Whole.{HandsOn, ServesSessions, ServesFrom, Whole, new_desk, opened_world};
 ghost use Rattle.td_stream.specs.Outside.{outside};
 
 use crate::ended::Ended;
@@ -22,7 +22,7 @@ use td_accept::{Accept, Gate, Visitor};
 use td_cdr::{Memory, Octets};
 use td_cell::Pass;
 use td_desk::{DeskPass, SharedDesk};
-use td_group::{Group, Stall};
+use td_group::{Group, SharedTrader};
 use td_server::serve_all;
 use td_trader::Solo;
 use td_walk::Address;
@@ -37,10 +37,10 @@ use td_workers::Stop;
 /// # Errors
 ///
 /// - `Failed` only where the acceptor's count of faults rose.
-/// - `Memory` for want of memory.
+/// - `Memory` when out of memory.
 ///
 /// Some sessions may have been handed on before, but no traders.
-#[tactic(auto, using(crate::specs::HallLaws::hands_none))]
+#[tactic(auto, using(crate::specs::JobSourceLaws::hands_none))]
 pub fn serve_sharing<
     A: Accept,
     G: Gate,
@@ -58,11 +58,11 @@ pub fn serve_sharing<
 ) -> Result<(), Stop>
     requires address { IsAddress home.now }
     requires seed { length seed.now ≡ 32 }
-    ensures serves { OnOk result (ServesAll
+    ensures serves { OnOk result (ServesSessions
         (λ v. outside (A.S.left v.source) (A.S.faults v.source) (A.K.written v.sink)
         (A.K.faults v.sink)) (λ v. A.W.word_after v.words) home.now seed.now solo.traders.items
-        (A.told accept.old) (N.told ended.old) (A.told accept.new) (N.told ended.new)) }
-    ensures handed { OnErr result (HandsSome (N.told ended.old) (N.told ended.new)) }
+        (A.content accept.old) (N.content ended.old) (A.content accept.new) (N.content ended.new)) }
+    ensures handed { OnErr result (HandsSome (N.content ended.old) (N.content ended.new)) }
     ensures later { A.faults accept.old ≤ A.faults accept.new }
     ensures stops { IfErr result (λ why. StopsSo why (A.faults accept.old) (A.faults accept.new)) }
 {
@@ -76,7 +76,7 @@ pub fn serve_sharing<
 }
 
 /// The same where the acceptor was bound.
-#[tactic(auto, using(crate::specs::HallLaws::hands_none))]
+#[tactic(auto, using(crate::specs::JobSourceLaws::hands_none))]
 fn serve_bound<
     A: Accept,
     G: Gate,
@@ -100,12 +100,12 @@ fn serve_bound<
         (A.K.faults v.sink)) (λ v. A.W.word_after v.words) solo.traders.items (record {
           given = home.now;
           seed = seed.now;
-          door = A.told accept.old;
-          told = N.told ended.old;
+          door = A.content accept.old;
+          content = N.content ended.old;
           world = opened_world solo.traders.items;
         })
-        (A.told accept.new) (N.told ended.new)) }
-    ensures handed { OnErr result (HandsSome (N.told ended.old) (N.told ended.new)) }
+        (A.content accept.new) (N.content ended.new)) }
+    ensures handed { OnErr result (HandsSome (N.content ended.old) (N.content ended.new)) }
     ensures later { A.faults accept.old ≤ A.faults accept.new }
     ensures stops { IfErr result (λ why. StopsSo why (A.faults accept.old) (A.faults accept.new)) }
 {
@@ -119,7 +119,7 @@ fn serve_bound<
 #[derive(Drop)]
 struct Shared {
     group: Group,
-    passes: Vec<Pass<Stall>>,
+    passes: Vec<Pass<SharedTrader>>,
     desk: SharedDesk,
     desk_pass: DeskPass,
 }
@@ -128,7 +128,7 @@ struct Shared {
 fn open_shared(alloc: Global, solo: Solo) -> Result<Shared, Memory>
     ensures opening { IfOk result (λ s. AreOpening s.group.cells.items s.passes.items) }
     ensures met { IfOk result (λ s. are_met s.passes.items ≡ true) }
-    ensures opened { IfOk result (λ s. map opened s.group.cells.items ≡ solo.traders.items) }
+    ensures opened { IfOk result (λ s. map opened_book s.group.cells.items ≡ solo.traders.items) }
     ensures seen { IfOk result (λ s. map seen_by s.passes.items ≡ opened_views solo.traders.items) }
     ensures desk { IfOk result (λ s. OpensDesk s.desk.cell s.desk_pass) }
     ensures new { IfOk result (λ s. desk_seen (knowledge s.desk_pass) ≡ new_desk) }
@@ -153,7 +153,7 @@ fn open_with(
     requires new { desk_seen (knowledge desk_pass) ≡ new_desk }
     ensures opening { IfOk result (λ s. AreOpening s.group.cells.items s.passes.items) }
     ensures met { IfOk result (λ s. are_met s.passes.items ≡ true) }
-    ensures opened { IfOk result (λ s. map opened s.group.cells.items ≡ solo.traders.items) }
+    ensures opened { IfOk result (λ s. map opened_book s.group.cells.items ≡ solo.traders.items) }
     ensures seen { IfOk result (λ s. map seen_by s.passes.items ≡ opened_views solo.traders.items) }
     ensures desk { IfOk result (λ s. OpensDesk s.desk.cell s.desk_pass) }
     ensures new { IfOk result (λ s. desk_seen (knowledge s.desk_pass) ≡ new_desk) }
@@ -197,17 +197,18 @@ fn serve_opened<
     requires seed { length seed.now ≡ 32 }
     ensures serves { OnOk result (ServesFrom
         (λ v. outside (A.S.left v.source) (A.S.faults v.source) (A.K.written v.sink)
-        (A.K.faults v.sink)) (λ v. A.W.word_after v.words) (map opened shared.group.cells.items)
+        (A.K.faults v.sink)) (λ v. A.W.word_after v.words)
+        (map opened_book shared.group.cells.items)
         (record {
           given = home.now;
           seed = seed.now;
-          door = A.told accept.old;
-          told = N.told ended.old;
+          door = A.content accept.old;
+          content = N.content ended.old;
           world = shared_world (map seen_by shared.passes.items)
               (desk_seen (knowledge shared.desk_pass));
         })
-        (A.told accept.new) (N.told ended.new)) }
-    ensures handed { OnErr result (HandsSome (N.told ended.old) (N.told ended.new)) }
+        (A.content accept.new) (N.content ended.new)) }
+    ensures handed { OnErr result (HandsSome (N.content ended.old) (N.content ended.new)) }
     ensures later { A.faults accept.old ≤ A.faults accept.new }
     ensures stops { IfErr result (λ why. StopsSo why (A.faults accept.old) (A.faults accept.new)) }
 {
@@ -280,20 +281,20 @@ fn serve_visitors<
         (A.K.faults v.sink)) (λ v. A.W.word_after v.words) (record {
           given = service.entry.home.now;
           seed = seed.now;
-          door = A.told accept.old;
-          told = N.told service.entry.ended.now;
+          door = A.content accept.old;
+          content = N.content service.entry.ended.now;
           world = shared_world (map seen_by service.entry.passes.items)
               (desk_seen (knowledge service.entry.desk_pass));
         })
         (record {
           given = service.entry.home.now;
           seed = seed.now;
-          door = A.told accept.new;
-          told = N.told result.1.ended.now;
+          door = A.content accept.new;
+          content = N.content result.1.ended.now;
           world = shared_world (map seen_by result.1.passes.items)
               (desk_seen (knowledge result.1.desk_pass));
         })) }
-    ensures handed { HandsSome (N.told service.entry.ended.now) (N.told result.1.ended.now) }
+    ensures handed { HandsSome (N.content service.entry.ended.now) (N.content result.1.ended.now) }
     ensures later { A.faults accept.old ≤ A.faults accept.new }
     ensures stops { IfErr result.0 (λ why. StopsSo why (A.faults accept.old)
         (A.faults accept.new)) }
@@ -302,11 +303,12 @@ fn serve_visitors<
 }
 
 /// Takes the traders out of a group all of whose sessions have ended, and hands them on.
-fn hand_on<V, N: Ended<V>>(group: Group, passes: Vec<Pass<Stall>>, ended: &mut N)
+fn hand_on<V, N: Ended<V>>(group: Group, passes: Vec<Pass<SharedTrader>>, ended: &mut N)
     requires opening { AreOpening group.cells.items passes.items }
     requires met { are_met passes.items ≡ true }
-    ensures { HandsOn (map opened group.cells.items) (map seen_by passes.items) (N.told ended.old)
-        (N.told ended.new) }
+    ensures { HandsOn (map opened_book group.cells.items) (map seen_by passes.items)
+        (N.content ended.old)
+        (N.content ended.new) }
 {
     match group.close(passes) {
         Ok(solo) => ended.group(solo),

@@ -2,13 +2,13 @@
 use Rattle.std.specs.Prelude.{◌⊎◌, ℕ, List, [], ◌∷◌, Option}
 use Rattle.td_accept.specs.Doors.{Door}
 use Rattle.td_cdr.specs.Marks.{In}
-use Rattle.td_desk.specs.Acting.{GoesOn}
+use Rattle.td_desk.specs.Acting.{ExtendsHistory}
 use Rattle.td_desk.specs.Giving.{places_through}
 use Rattle.td_desk.specs.declared.event.Event.{Event}
-use Rattle.td_iter.specs.declared.desk.Entry.{Entry}
+use Rattle.td_iter.specs.declared.desk.DeskEntry.{DeskEntry}
 use Rattle.td_iter.specs.declared.item.Item.{Item}
 use Rattle.td_server.specs.Whole.{Every}
-use Rattle.td_shared_sessions.specs.Sessions.{Seeded, Stand, Told}
+use Rattle.td_shared_sessions.specs.Sessions.{WordsBySeeding, ServerState, HandedSessions}
 use Rattle.td_shared_sessions.specs.Whole.{ServesFrom, Visit}
 use Rattle.td_stream.specs.Outside.{Outside}
 use Rattle.td_trader.specs.PlainTraders.{PlainTrader}
@@ -35,34 +35,38 @@ module _ {X : Type 0} where
 
   -- what each session has seen of the desk is a front of this history, and no call of it is that of two
   pub record HaveSeen (h : List Event) (visits : List (Visit X)) : Type 0 where
-    pub fronts : Every (λ (v : Visit X). GoesOn (seen_by v) h) visits
+    pub fronts : Every (λ (v : Visit X). ExtendsHistory (seen_by v) h) visits
     pub apart : CallApart visits
 
   -- ---- what it gives
 
   -- the item at this place of an iterator's list was given by a call of one of the sessions
-  abbrev pub IsGiven : List Event → Entry Item → ℕ → List (Visit X) → Type 0
-  IsGiven h e k [] = ⊥
-  IsGiven h e k (v ∷ vs) = In k (places_through h e (calls_of v)) ⊎ IsGiven h e k vs
+  abbrev pub IsGivenBySession : List Event → DeskEntry Item → ℕ → List (Visit X) → Type 0
+  IsGivenBySession h e k [] = ⊥
+  IsGivenBySession h e k (v ∷ vs) = In k (places_through h e (calls_of v))
+      ⊎ IsGivenBySession h e k vs
 
   -- no item of its list was given by calls of two of them
-  abbrev pub GivenApart : List Event → Entry Item → List (Visit X) → Type 0
+  abbrev pub GivenApart : List Event → DeskEntry Item → List (Visit X) → Type 0
   GivenApart h e [] = Unit {0}
   GivenApart h e (v ∷ vs) =
-      ((k : ℕ) → In k (places_through h e (calls_of v)) → IsGiven h e k vs → ⊥) × GivenApart h e vs
+      ((k : ℕ) → In k (places_through h e (calls_of v)) → IsGivenBySession h e k vs → ⊥)
+      × GivenApart h e vs
 
 -- ---- so it is where a server has served its last visitor
 
 abbrev pub ShareOneHistory : Type 0 → Type 0
 ShareOneHistory X =
-    (outside_of : X → Outside) (seeded : X → Seeded) (opened : List PlainTrader) (start : Stand X)
-    (door_after : Option (Door X)) (told_after : Option (Told X))
-    (s : ServesFrom outside_of seeded opened start door_after told_after)
+    (outside_of : X → Outside) (seeded : X → WordsBySeeding) (opened : List PlainTrader)
+    (start : ServerState X)
+    (door_after : Option (Door X)) (content_after : Option (HandedSessions X))
+    (s : ServesFrom outside_of seeded opened start door_after content_after)
     → HaveSeen s.end.world.desk.history s.whole.visits
 
 abbrev pub NoItemGoesToTwo : Type 0 → Type 0
 NoItemGoesToTwo X =
-    (outside_of : X → Outside) (seeded : X → Seeded) (opened : List PlainTrader) (start : Stand X)
-    (door_after : Option (Door X)) (told_after : Option (Told X))
-    (s : ServesFrom outside_of seeded opened start door_after told_after) (e : Entry Item)
+    (outside_of : X → Outside) (seeded : X → WordsBySeeding) (opened : List PlainTrader)
+    (start : ServerState X)
+    (door_after : Option (Door X)) (content_after : Option (HandedSessions X))
+    (s : ServesFrom outside_of seeded opened start door_after content_after) (e : DeskEntry Item)
     → GivenApart s.end.world.desk.history e s.whole.visits

@@ -1,5 +1,5 @@
-//! The client's program asks a server by another name than its file's, so that the iterator of the reply is elsewhere for
-//! it: it is asked over a second connection.
+//! The client's program asks a server by another name than its file's, so that the iterator of the reply is elsewhere
+//! for it: it is asked over a second connection.
 
 use crate::connection::{Connection, replies};
 use crate::opening::{Server, opened};
@@ -8,7 +8,7 @@ use std::process::Abort;
 use std::sync::Wait;
 use std::test::Fail;
 use td_cdr::{List, Memory, Octets};
-use td_client_run::client_run;
+use td_cli_program::client_run;
 use td_desk::SharedDesk;
 use td_out::MemSink;
 use td_shared::{KeptSharedJournal, SharedJournal};

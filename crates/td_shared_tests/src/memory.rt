@@ -1,4 +1,4 @@
-//! A query that wants memory keeps no iterator.
+//! A query that runs out of memory keeps no iterator.
 
 ghost use Rattle.std.specs.Prelude.{[]};
 
@@ -48,9 +48,9 @@ const SECOND: &str = "\
 
 /// Peers for whose answers there is no memory.
 #[derive(Drop)]
-struct Wanting {}
+struct OutOfMemory {}
 
-impl Peers for Wanting {
+impl Peers for OutOfMemory {
     ghost calls = { λ _. [] };
 
     ghost faults = { λ _. 0 };
@@ -92,7 +92,7 @@ impl Peers for Wanting {
     fn tell_gifts(&self) {}
 }
 
-/// Whether no iterator stands on the desk behind a query that wanted memory.
+/// Whether no iterator stands on the desk behind a query that ran out of memory.
 fn keeps_none<R: Wait>(rt: &R, alloc: Global) -> Result<bool, Fail> {
     let (desk, pass) = SharedDesk::open(alloc)?;
     let mut connection = Connection {
@@ -111,7 +111,7 @@ fn keeps_none<R: Wait>(rt: &R, alloc: Global) -> Result<bool, Fail> {
         alloc,
         &mut server,
         &mut connection,
-        &mut Wanting {},
+        &mut OutOfMemory {},
         sent.as_slice(),
         given.as_slice(),
     )?;

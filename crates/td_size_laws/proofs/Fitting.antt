@@ -9,10 +9,10 @@ use Rattle.td_cdr.specs.declared.order.Order.TheVariants.{Big}
 use Rattle.td_cdr.specs.Format.{row}
 use Rattle.td_cdr.specs.Gap.{gap}
 use Rattle.td_cdr.specs.Sound.{text}
-use Rattle.td_codes.specs.References.{reference}
-use Rattle.td_codes.specs.Values.{any_value}
-use Rattle.td_codes.specs.declared.code.Any.{Any}
-use Rattle.td_iter.specs.Filling.{counted}
+use Rattle.td_typecode.specs.References.{reference}
+use Rattle.td_typecode.specs.Values.{any_value}
+use Rattle.td_typecode.specs.declared.code.Any.{Any}
+use Rattle.td_iter.specs.Filling.{count_before}
 use Rattle.td_iter.specs.Heads.{IsShort}
 use Rattle.td_iter.proofs.Counting.{counted-length}
 use Rattle.td_iter.proofs.Lengths.{reference-steady}
@@ -163,7 +163,7 @@ module _ (o : Offer) where
   whole : length (offer.format.writes o Big 0) ≡ length front + (gap 4 (0 + length front) + 4 + length (rows
       o.properties Big base))
   whole =
-      let behind = counted property.format.writes o.properties Big (0 + length front) in
+      let behind = count_before property.format.writes o.properties Big (0 + length front) in
       length-append front behind
       ∙ ap (λ (n : ℕ). length front + n) (counted-length property.format.writes o.properties Big (0 + length front))
 
@@ -200,7 +200,7 @@ pub bounded_short : BoundedOffersAreShort
 bounded_short o h order place =
     let front = reference.format.writes o.reference order place in
     let at = place + length front in
-    let behind = counted property.format.writes o.properties order at in
+    let behind = count_before property.format.writes o.properties order at in
     let first = h.reference_within order place in
     let rest = fit-row o.properties h.properties_bound h.properties_fit order (at + (gap 4 at + 4)) in
     let both = h.together in

@@ -5,13 +5,13 @@ use Rattle.std.specs.List.{AllByRecursion}
 use Rattle.td_cdr.specs.Marks.{Marks}
 use Rattle.td_changes.specs.declared.bounds.Bounds.{Bounds}
 use Rattle.td_fed.proofs.Members.{Beginnings, Insides}
-use Rattle.td_fed.specs.Visiting.{Begins, Walks, start_of}
-use Rattle.td_places.specs.Targets.{inside_group}
+use Rattle.td_fed.specs.Visiting.{BeginsVisit, Walks, start_of}
+use Rattle.td_targets.specs.Targets.{inside_group}
 use Rattle.td_ops.specs.declared.call.Query.{Query}
 use Rattle.td_policy.specs.Effective.{effective_of}
 use Rattle.td_policy.specs.declared.stated.Stated.{Stated}
-use Rattle.td_register.specs.Causes.{Cause, given, limit_if, ◌otherwise◌}
-use Rattle.td_register.specs.Named.{known}
+use Rattle.td_register.specs.Causes.{Cause, with_cause, limit_if, ◌otherwise◌}
+use Rattle.td_register.specs.Named.{type_found}
 use Rattle.td_register.specs.Registers.{no_more}
 use Rattle.td_register.specs.Stores.{Store}
 use Rattle.td_register.specs.declared.history.Accepted.{Accepted}
@@ -23,7 +23,7 @@ use Rattle.td_trader.specs.OfferLimits.{HasLimitedOffers, IsWithinLimits}
 use Rattle.td_trader.specs.Queries.{desired_cause, first_name, others_cause, parts_cause, parts_of, path_link, refusal}
 use Rattle.td_trader.specs.Queries.{start_cause}
 use Rattle.td_trader.specs.Serving.{local_of, path_of}
-use Rattle.td_trader.specs.Worlds.{Begun, View, history_at, store_seen}
+use Rattle.td_trader.specs.Worlds.{BeginsQuery, View, history_at, store_seen}
 use Rattle.td_trader.specs.declared.begin.Begin.{Begin}
 use Rattle.td_trader.specs.declared.begin.Begin.TheVariants as begin
 use Rattle.td_types.proofs.Sequences.{each-append, each-filter}
@@ -36,9 +36,10 @@ use Rattle.td_walk.specs.declared.trace.Address.{Address}
 use Rattle.td_walk.specs.declared.trace.TraceItem.{TraceItem}
 use Rattle.td_walk.specs.declared.trace.Visit.{Visit}
 use Rattle.td_walk.specs.declared.trace.Visit.TheVariants as visit
-use Rattle.td_walk_laws.specs.Walks.{Course, Opens, Path, Refused, Repeat, Search, Start, Step, Steps, Walk, answer_in}
-use Rattle.td_walk_laws.specs.Walks.{asked, asking, done, evaluated, outside, passing, refused, repeat, searching}
-use Rattle.td_walk_laws.specs.Walks.{unanswered, unevaluated, unreachable, visited}
+use Rattle.td_query_walk.specs.Walks.{WalkState, OpensWith, Path, Refused, Repeat, Search, Start, Step, Steps, Walk}
+use Rattle.td_query_walk.specs.Walks.{answer_in}
+use Rattle.td_query_walk.specs.Walks.{asked, asking, done, evaluated, outside, passing, refused, repeat, searching}
+use Rattle.td_query_walk.specs.Walks.{no_memory_with, unevaluated, unreachable, visited}
 use Rattle.td_size_laws.specs.Bounds.{IsBounded}
 use Rattle.td_size_laws.specs.SizeLaws.{GivesBounded, WalksGiveBoundedOffers}
 use Rattle.td_size_laws.proofs.Answers.{AreBounded, AreBoundedSteps, HasBounded, IsBoundedStep, answer-bounded}
@@ -90,7 +91,7 @@ named-once : (bounds : Bounds) (count : ℕ) (s : Store) (q : Query) → refusal
 unfolding refusal
 named-once bounds count s q h =
     let others = others_cause bounds count s.links q (parts_of q).stated in
-    let typed = neither (given (known s.types.types q.service_type) no_more) (parts_cause q otherwise others) h in
+    let typed = neither (with_cause (type_found s.types.types q.service_type) no_more) (parts_cause q otherwise others) h in
     let rest = neither (parts_cause q) others typed.1 in
     (neither (desired_cause q.desired) (start_cause s.links q.policies (first_name (parts_of q).stated)
     otherwise limit_if (nat_le bounds.begins count)) rest.1).0
@@ -124,7 +125,7 @@ abbrev AlwaysLimited : Beginnings → Type 0
 AlwaysLimited B = (w u : List View) (k : ℕ) (q : Query) (start : Start) → B w k q start u → StartsLimited q start
 
 always-limited : (others : List Accepted → Type 0) (later : Marks → Marks → Type 0)
-    → AlwaysLimited (Begins others later)
+    → AlwaysLimited (BeginsVisit others later)
 always-limited others later w u k q start b =
     let r = b.begun in
     subst (StartsLimited q) (sym b.is)
@@ -132,7 +133,7 @@ always-limited others later w u k q start b =
     (subst (BeginsLimited q) (sym r.begin)
     (begin-limited r.seen.bounds (store_seen r.seen) (length r.seen.history) r.seen.marks q r.limited)))
 
-opened-limited : {k : ℕ} {l : Local} {start : Start} {head : TraceItem} (q : Query) → Opens k l start head
+opened-limited : {k : ℕ} {l : Local} {start : Start} {head : TraceItem} (q : Query) → OpensWith k l start head
     → StartsLimited q start → IsLimitedLocal q l
 opened-limited q searching h = h
 opened-limited q passing h = h
@@ -142,8 +143,8 @@ small-each [] h = tt
 small-each (o ∷ offers) h = (small-bounded o h.0, small-each offers h.1)
 
 mutual
-  walk-bounded : (B : Beginnings) (inside : Insides) (limited : AlwaysLimited B) {s : Course (List View)} {k : ℕ}
-      {q : Query} {t : List TraceItem} {v : Visit} {u : Course (List View)} → Walk B inside s k q t v u
+  walk-bounded : (B : Beginnings) (inside : Insides) (limited : AlwaysLimited B) {s : WalkState (List View)} {k : ℕ}
+      {q : Query} {t : List TraceItem} {v : Visit} {u : WalkState (List View)} → Walk B inside s k q t v u
       → GivesBounded q (answer_in v).offers
   walk-bounded B inside limited (refused b) = record { bounded = tt; named_once = inl refl }
   walk-bounded B inside limited (repeat b) = record { bounded = tt; named_once = inl refl }
@@ -157,20 +158,20 @@ mutual
         named_once = inr local.named;
       }
 
-  steps-bounded : (B : Beginnings) (inside : Insides) (limited : AlwaysLimited B) {s : Course (List View)} {l : Local}
-      {answers : List StepAnswer} {t : List TraceItem} {all : List StepAnswer} {u : Course (List View)}
+  steps-bounded : (B : Beginnings) (inside : Insides) (limited : AlwaysLimited B) {s : WalkState (List View)} {l : Local}
+      {answers : List StepAnswer} {t : List TraceItem} {all : List StepAnswer} {u : WalkState (List View)}
       → Steps B inside s l answers t all u → AreBoundedSteps answers → AreBoundedSteps all
   steps-bounded B inside limited (done e) given = given
   steps-bounded B inside limited (asked {answers = answers} {r = r} step steps) given =
       steps-bounded B inside limited steps
       (each-append IsBoundedStep answers (r ∷ []) given (step-bounded B inside limited step, tt))
 
-  step-bounded : (B : Beginnings) (inside : Insides) (limited : AlwaysLimited B) {s : Course (List View)}
-      {question : Next} {t : List TraceItem} {r : StepAnswer} {u : Course (List View)}
+  step-bounded : (B : Beginnings) (inside : Insides) (limited : AlwaysLimited B) {s : WalkState (List View)}
+      {question : Next} {t : List TraceItem} {r : StepAnswer} {u : WalkState (List View)}
       → Step B inside s question t r u → IsBoundedStep r
   step-bounded B inside limited (visited i walk) = (walk-bounded B inside limited walk).bounded
   step-bounded B inside limited (outside {a = a} i small) = small-each a.offers small
-  step-bounded B inside limited (unanswered i f) = tt
+  step-bounded B inside limited (no_memory_with i f) = tt
   step-bounded B inside limited (evaluated i) = tt
   step-bounded B inside limited (unevaluated i f) = tt
   step-bounded B inside limited (unreachable i) = tt
@@ -178,4 +179,4 @@ mutual
 pub walks_bounded : (others : List Accepted → Type 0) (later : Marks → Marks → Type 0)
     → WalksGiveBoundedOffers others later
 walks_bounded others later home s u k q t a max_list walk =
-    walk-bounded (Begins others later) (inside_group home) (always-limited others later) walk
+    walk-bounded (BeginsVisit others later) (inside_group home) (always-limited others later) walk

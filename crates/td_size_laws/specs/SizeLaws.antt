@@ -14,7 +14,7 @@ use Rattle.td_walk.specs.declared.answer.SubAnswer.{SubAnswer}
 use Rattle.td_walk.specs.declared.trace.Address.{Address}
 use Rattle.td_walk.specs.declared.trace.TraceItem.{TraceItem}
 use Rattle.td_walk.specs.declared.trace.Visit.TheVariants as visit
-use Rattle.td_walk_laws.specs.Walks.{Course}
+use Rattle.td_query_walk.specs.Walks.{WalkState}
 use Rattle.td_size_laws.specs.Bounds.{IsBounded}
 
 -- an offer with such bounds is short enough for a batch
@@ -30,6 +30,6 @@ pub record GivesBounded (q : Query) (offers : List Offer) : Type 0 where
 abbrev pub WalksGiveBoundedOffers : (others : List Accepted → Type 0)
     → (later : Marks → Marks → Type 0) → Type 0
 WalksGiveBoundedOffers others later =
-    (home : Address) (s u : Course (List View)) (k : ℕ) (q : Query) (t : List TraceItem)
+    (home : Address) (s u : WalkState (List View)) (k : ℕ) (q : Query) (t : List TraceItem)
     (a : SubAnswer) (max_list : ℕ)
     → Walks others later home s k q t (visit.Answered a max_list) u → GivesBounded q a.offers

@@ -8,7 +8,7 @@ use Rattle.std.proofs.lemmas.Bool.{cases_Bool, or_left, or_right, or_cases, and_
 use Rattle.std.proofs.lemmas.Bool.{ne_eqb, false≢true}
 use Rattle.std.proofs.lemmas.List.{length_push, append_assoc, drop_more, map-append}
 use Rattle.td_types.specs.Conforming.{conforms, subtypes, ancestors}
-use Rattle.td_types.specs.Laws.{Rises}
+use Rattle.td_types.specs.Laws.{RisesAbove}
 use Rattle.td_types.specs.Repository.{incarnation_in, incarnation_of, has_type, is_named}
 use Rattle.td_types.specs.Repository.{is_among as is_name_among}
 use Rattle.td_types.specs.declared.entry.ServiceType.{ServiceType}
@@ -19,7 +19,7 @@ use Rattle.td_store.specs.Candidates.{is_incarnation, belongs, is_exact, is_aske
 use Rattle.td_store.specs.Candidates.{is_candidate, candidates, is_among, most_steps}
 use Rattle.td_store.specs.Candidates.{has_conforming_type}
 use Rattle.td_store.specs.OfferLists.{is_of}
-use Rattle.td_store.specs.Searches.{AreApart, only, searched}
+use Rattle.td_store.specs.Searches.{AreDistinct, only, searched_types}
 use Rattle.td_store.specs.declared.record.OfferRecord.{OfferRecord}
 use Rattle.td_store.proofs.Mixing.{filter-yes, filter-no, passes-none}
 
@@ -115,7 +115,7 @@ asked-conforms types false asked name i e h = h
 
 listed-when : (types : List ServiceType) (exact : Bool) (asked : List ℕ) (o : OfferRecord)
     → incarnation_of types o.service_type ≡ Some o.incarnation → is_asked types exact asked o.service_type ≡ true
-    → is_among (searched types exact asked) o ≡ true
+    → is_among (searched_types types exact asked) o ≡ true
 listed-when types true asked o e h =
     let found : incarnation_of types asked ≡ Some o.incarnation =
     ap (incarnation_of types) (sym (bytes_same o.service_type asked h)) ∙ e in
@@ -123,7 +123,7 @@ listed-when types true asked o e h =
 listed-when types false asked o e h = conforming-listed types asked o.service_type o.incarnation e h
 
 pub asked-listed : (types : List ServiceType) (s : Stated) (asked : List ℕ) (o : OfferRecord)
-    → has_asked_type types s asked o ≡ true → is_among (searched types (is_exact s) asked) o ≡ true
+    → has_asked_type types s asked o ≡ true → is_among (searched_types types (is_exact s) asked) o ≡ true
 asked-listed types s asked o h =
     let parts = and_parts (belongs types o) (is_asked types (is_exact s) asked o.service_type) h in
     listed-when types (is_exact s) asked o (has-incarnation o.incarnation (incarnation_of types o.service_type) parts.0)
@@ -136,10 +136,10 @@ candidate-asked types a s asked o h = (and_parts (has_asked_type types s asked o
 -- the candidates among the offers of the searched types are those among all offers
 pub same-candidates : (types : List ServiceType) (a : Attributes) (s : Stated) (asked : List ℕ) (count : ℕ)
     (offers : List OfferRecord)
-    → candidates types a s asked count (filter (is_among (searched types (is_exact s) asked)) offers)
+    → candidates types a s asked count (filter (is_among (searched_types types (is_exact s) asked)) offers)
     ≡ candidates types a s asked count offers
 same-candidates types a s asked count offers =
-    ap (take count) (filter-within (is_candidate types a s asked) (is_among (searched types (is_exact s) asked))
+    ap (take count) (filter-within (is_candidate types a s asked) (is_among (searched_types types (is_exact s) asked))
     (λ o h. asked-listed types s asked o (candidate-asked types a s asked o h)) offers)
 
 -- ---- how many are searched
@@ -163,20 +163,20 @@ few-when types asked offers (Some i) e =
     omega (arith, long, more)
 
 pub few-searched : (types : List ServiceType) (exact : Bool) (asked : List ℕ) (offers : List OfferRecord)
-    → length (searched types exact asked) + length (filter (is_among (searched types exact asked)) offers)
+    → length (searched_types types exact asked) + length (filter (is_among (searched_types types exact asked)) offers)
     ≤ most_steps types asked offers
 few-searched types true asked offers = few-when types asked offers (incarnation_of types asked) refl
 few-searched types false asked offers = omega arith
 
 -- numbers that rise stand apart
-above-all : (q low : ℕ) (xs : List ℕ) → q ≤ low → Rises low xs → list_any (nat_eq q) xs ≡ false
+above-all : (q low : ℕ) (xs : List ℕ) → q ≤ low → RisesAbove low xs → list_any (nat_eq q) xs ≡ false
 above-all q low [] l r = refl
 above-all q low (x ∷ xs) l r =
     let b : low < x = r.0 in
     let other : eqb q x ≡ false = ne_eqb q x (λ (e : q ≡ x). absurd (omega (arith, l, b, e))) in
     rw other (above-all q x xs (omega (arith, l, b)) r.1)
 
-pub apart-from_rises : (low : ℕ) (xs : List ℕ) → Rises low xs → AreApart xs
+pub apart-from_rises : (low : ℕ) (xs : List ℕ) → RisesAbove low xs → AreDistinct xs
 apart-from_rises low [] r = tt
 apart-from_rises low (x ∷ xs) r = (above-all x x xs (omega arith) r.1, apart-from_rises x xs r.1)
 
@@ -221,13 +221,13 @@ module _ {R X : Type 0} (now : R → X) (p : X → Bool) (rows : List R) (i n : 
 
 pub steps-within : (types : List ServiceType) (exact : Bool) (asked : List ℕ) (offers shown : List OfferRecord)
     (incarnations : List ℕ) (began more : ℕ)
-    → incarnations ≡ searched types exact asked → offers ≡ shown
+    → incarnations ≡ searched_types types exact asked → offers ≡ shown
     → more ≤ began + length incarnations + length (filter (is_among incarnations) offers)
     → more ≤ began + most_steps types asked shown
 steps-within types exact asked offers shown incarnations began more e v h =
     let few = few-searched types exact asked shown in
-    let most : more ≤ began + length (searched types exact asked)
-    + length (filter (is_among (searched types exact asked)) shown) =
+    let most : more ≤ began + length (searched_types types exact asked)
+    + length (filter (is_among (searched_types types exact asked)) shown) =
     subst (λ (is : List ℕ). more ≤ began + length is + length (filter (is_among is) shown)) e
     (subst (λ (os : List OfferRecord).
     more ≤ began + length incarnations + length (filter (is_among incarnations) os))
@@ -236,18 +236,18 @@ steps-within types exact asked offers shown incarnations began more e v h =
 
 pub found-same : (types : List ServiceType) (a : Attributes) (s : Stated) (asked : List ℕ) (count : ℕ) (exact : Bool)
     (offers shown chosen : List OfferRecord) (incarnations : List ℕ)
-    → incarnations ≡ searched types exact asked → exact ≡ is_exact s → offers ≡ shown
+    → incarnations ≡ searched_types types exact asked → exact ≡ is_exact s → offers ≡ shown
     → chosen ≡ filter (is_among incarnations) offers
     → candidates types a s asked count chosen ≡ candidates types a s asked count shown
 found-same types a s asked count exact offers shown chosen incarnations e x v h =
     ap (candidates types a s asked count)
-    (h ∙ ap (λ (is : List ℕ). filter (is_among is) offers) (e ∙ ap (λ (b : Bool). searched types b asked) x))
+    (h ∙ ap (λ (is : List ℕ). filter (is_among is) offers) (e ∙ ap (λ (b : Bool). searched_types types b asked) x))
     ∙ (same-candidates types a s asked count offers ∙ ap (candidates types a s asked count) v)
 
 -- ---- the offers whose type conforms
 
 with-conforming-type : (types : List ServiceType) (asked : List ℕ) (o : OfferRecord)
-    → has_conforming_type types asked o ≡ true → is_among (searched types false asked) o ≡ true
+    → has_conforming_type types asked o ≡ true → is_among (searched_types types false asked) o ≡ true
 with-conforming-type types asked o h =
     let parts = and_parts (belongs types o) (conforms types o.service_type asked) h in
     conforming-listed types asked o.service_type o.incarnation
@@ -255,12 +255,12 @@ with-conforming-type types asked o h =
 
 pub conforming-same : (types : List ServiceType) (asked : List ℕ) (offers shown chosen : List OfferRecord)
     (incarnations : List ℕ)
-    → incarnations ≡ searched types false asked → offers ≡ shown → chosen ≡ filter (is_among incarnations) offers
+    → incarnations ≡ searched_types types false asked → offers ≡ shown → chosen ≡ filter (is_among incarnations) offers
     → filter (has_conforming_type types asked) chosen ≡ filter (has_conforming_type types asked) shown
 conforming-same types asked offers shown chosen incarnations e v h =
     let test = has_conforming_type types asked in
     ap (filter test) (h ∙ ap (λ (is : List ℕ). filter (is_among is) offers) e)
-    ∙ (filter-within test (is_among (searched types false asked)) (with-conforming-type types asked) offers
+    ∙ (filter-within test (is_among (searched_types types false asked)) (with-conforming-type types asked) offers
     ∙ ap (filter test) v)
 
 -- a turn over references to what is kept or left out

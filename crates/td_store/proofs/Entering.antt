@@ -3,7 +3,7 @@ use Rattle.std.proofs.Common.{◌≡◌, ℕ, ◌*◌, Bool, true, false, ◌||�
 use Rattle.std.proofs.lemmas.Bool.{cases_eq, ne_eqb, eq-eqb}
 use mathlib.Core.Logic.{◌≢◌}
 use Rattle.td_store.specs.declared.joint.Joint.{Joint}
-use Rattle.td_store.specs.Rings.{after, before, ring, IsLink, with_last, Path, Fits, ring_is_no_link}
+use Rattle.td_store.specs.Rings.{after, before, ring, IsLink, with_last, Path, AreRingsOf, ring_is_no_link}
 use Rattle.td_store.specs.Slabs.{is_in}
 use Rattle.td_store.proofs.Core.{either, Enters, enters-path, enters-other, triples, pushed-is_in}
 use Rattle.td_store.proofs.Wiring.{Rewired}
@@ -37,7 +37,7 @@ with_last-has rings x e =
     (pushed-is_in x x (rings e)
     ∙ (ap (λ b. is_in x (rings e) || b) (eq-eqb x x refl) ∙ or-true (is_in x (rings e))))
 
-module _ (js ms : List Joint) (rings : ℕ → List ℕ) (x e : ℕ) (f : Fits js rings) (link : IsLink x)
+module _ (js ms : List Joint) (rings : ℕ → List ℕ) (x e : ℕ) (f : AreRingsOf js rings) (link : IsLink x)
     (off : (k : ℕ) → is_in x (rings k) ≡ false)
     (r : Rewired js ms (before js (3 * e)) x (3 * e) x x
     (record { after = 3 * e; before = before js (3 * e); ring = 3 * e })) where
@@ -126,5 +126,5 @@ module _ (js ms : List Joint) (rings : ℕ → List ℕ) (x e : ℕ) (f : Fits j
       λ (d : q ≡ before js (3 * e)). ring_is_no_link e q (sym (f.back (3 * e)) ∙ (ap (after js) (sym d) ∙ was)) l in
       r.after_others q n m ∙ was)
 
-  pub fits-entered : Fits ms (with_last e x rings)
+  pub fits-entered : AreRingsOf ms (with_last e x rings)
   fits-entered = record { forth = in_forth; back = in_back; paths = in_paths; owned = in_owned; alone = in_alone }

@@ -5,10 +5,10 @@ use Rattle.std.proofs.lemmas.List.{get_or_append_left, get_or-append_right, get_
 use Rattle.std.proofs.lemmas.Bool.{cases_lt, ne_eqb}
 use mathlib.Core.Path.{fun_ext}
 use Rattle.td_store.specs.declared.joint.Joint.{Joint}
-use Rattle.td_store.specs.Rings.{loop, joint_at, after, before, Path, Fits, ring_is_no_link}
+use Rattle.td_store.specs.Rings.{loop, joint_at, after, before, Path, AreRingsOf, ring_is_no_link}
 use Rattle.td_store.proofs.Core.{either}
 
-pub fits-none : Fits [] (λ k. [])
+pub fits-none : AreRingsOf [] (λ k. [])
 fits-none = record {
   forth = λ q. refl;
   back = λ q. refl;
@@ -37,8 +37,8 @@ three-more js n q e =
     right ∙ (three n q (q - n) (omega arith) ∙ sym past))
 
 -- so the joints make the same rings
-pub fits-same : (js ms : List Joint) (rings : ℕ → List ℕ) → ((q : ℕ) → joint_at ms q ≡ joint_at js q) → Fits js rings
-    → Fits ms rings
+pub fits-same : (js ms : List Joint) (rings : ℕ → List ℕ) → ((q : ℕ) → joint_at ms q ≡ joint_at js q) → AreRingsOf js rings
+    → AreRingsOf ms rings
 fits-same js ms rings same f =
     let A : after ms ≡ after js = fun_ext (λ q. ap (λ z. z.after) (same q)) in
     record {

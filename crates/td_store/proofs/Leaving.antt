@@ -3,12 +3,12 @@ use Rattle.std.proofs.Common.{◌≡◌, ℕ, ◌*◌, false, eqb, List, refl, s
 use Rattle.std.proofs.lemmas.Bool.{cases_eq, ne_eqb}
 use mathlib.Core.Logic.{◌≢◌}
 use Rattle.td_store.specs.declared.joint.Joint.{Joint}
-use Rattle.td_store.specs.Rings.{loop, after, before, ring, IsLink, Fits, ring_is_no_link}
+use Rattle.td_store.specs.Rings.{loop, after, before, ring, IsLink, AreRingsOf, ring_is_no_link}
 use Rattle.td_store.specs.Slabs.{is_in, without}
 use Rattle.td_store.proofs.Core.{either, Skips, skips-path, without-same, without-is_in}
 use Rattle.td_store.proofs.Wiring.{Rewired}
 
-module _ (js ms : List Joint) (rings : ℕ → List ℕ) (x : ℕ) (f : Fits js rings) (link : IsLink x)
+module _ (js ms : List Joint) (rings : ℕ → List ℕ) (x : ℕ) (f : AreRingsOf js rings) (link : IsLink x)
     (r : Rewired js ms (before js x) (after js x) (after js x) (before js x) x (loop x)) where
   closes : (k : ℕ) → 3 * k ≢ x
   closes k e = ring_is_no_link k x e link
@@ -70,7 +70,7 @@ module _ (js ms : List Joint) (rings : ℕ → List ℕ) (x : ℕ) (f : Fits js 
       let m : q ≢ before js x = λ (e : q ≡ before js x). n (sym was ∙ (ap (after js) e ∙ f.back x)) in
       r.after_others q n m ∙ was)
 
-  pub fits-left : Fits ms (λ k. without x (rings k))
+  pub fits-left : AreRingsOf ms (λ k. without x (rings k))
   fits-left = record {
     forth = left_forth;
     back = left_back;

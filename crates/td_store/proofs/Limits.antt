@@ -21,8 +21,8 @@ use Rattle.td_value.specs.declared.enumerations.FollowOption.TheVariants.{LocalO
 use Rattle.td_value.specs.declared.structures.Property.{Property}
 use Rattle.td_store.specs.Candidates.{belongs, is_exact, is_asked, has_dynamic, is_candidate, is_used, candidates}
 use Rattle.td_store.specs.Candidates.{has_conforming_type}
-use Rattle.td_store.specs.Laws.{HasConformingType, IsPlain}
-use Rattle.td_store.specs.LinkLists.{most_links, link_of, is_linked, ruled, without_link}
+use Rattle.td_store.specs.Laws.{HasConformingType, IsStaticOffer}
+use Rattle.td_store.specs.LinkLists.{most_links, link_of, is_linked, with_follow_rules, without_link}
 use Rattle.td_store.specs.OfferLists.{most_offers, is_numbered, offer_of, without_offer, with_properties}
 use Rattle.td_store.specs.OfferLists.{NumbersRise}
 use Rattle.td_store.specs.Stores.{AdmitsLink, IsOffer, IsStore}
@@ -127,7 +127,7 @@ or_fixed : (b c : Bool) → c ≡ false → (b || not c) ≡ true
 or_fixed true c e = refl
 or_fixed false c e = ap not e
 
-plain-searched : (types : List ServiceType) (a : Attributes) (asked : List ℕ) (o : OfferRecord) → IsPlain o
+plain-searched : (types : List ServiceType) (a : Attributes) (asked : List ℕ) (o : OfferRecord) → IsStaticOffer o
     → is_candidate types a nothing asked o ≡ has_conforming_type types asked o
 plain-searched types a asked o plain =
     and_true (has_conforming_type types asked o) (is_used types a nothing o)
@@ -137,12 +137,12 @@ plain-searched types a asked o plain =
     ) refl)
 
 pub all-searched : (types : List ServiceType) (a : Attributes) (asked : List ℕ) (offers : List OfferRecord)
-    → AllByRecursion IsPlain offers
+    → AllByRecursion IsStaticOffer offers
     → candidates types a nothing asked (length offers) offers ≡ filter (has_conforming_type types asked) offers
 all-searched types a asked offers plain =
     whole-front (length offers) (filter (is_candidate types a nothing asked) offers)
     (few-left (is_candidate types a nothing asked) offers)
-    ∙ filter-alike IsPlain (is_candidate types a nothing asked) (has_conforming_type types asked)
+    ∙ filter-alike IsStaticOffer (is_candidate types a nothing asked) (has_conforming_type types asked)
     (plain-searched types a asked) offers plain
 
 -- ---- numbers
@@ -369,7 +369,7 @@ ruled-admitted true d m l h = record {
 ruled-admitted false d m l h = h
 
 all-ruled : (name : List ℕ) (d m : FollowOption) (ls : List LinkRecord) → AllByRecursion AdmitsLink ls
-    → AllByRecursion AdmitsLink (map (ruled name d m) ls)
+    → AllByRecursion AdmitsLink (map (with_follow_rules name d m) ls)
 all-ruled name d m [] h = tt
 all-ruled name d m (l ∷ ls) h = (ruled-admitted (is_linked name l) d m l h.0, all-ruled name d m ls h.1)
 
@@ -379,18 +379,18 @@ same-name true d m l = refl
 same-name false d m l = refl
 
 same-names : (name : List ℕ) (d m : FollowOption) (ls : List LinkRecord)
-    → map (λ l. l.name) (map (ruled name d m) ls) ≡ map (λ l. l.name) ls
+    → map (λ l. l.name) (map (with_follow_rules name d m) ls) ≡ map (λ l. l.name) ls
 same-names name d m [] = refl
 same-names name d m (l ∷ ls) =
-    ap (λ (n : List ℕ). n ∷ map (λ l. l.name) (map (ruled name d m) ls)) (same-name (is_linked name l) d m l)
+    ap (λ (n : List ℕ). n ∷ map (λ l. l.name) (map (with_follow_rules name d m) ls)) (same-name (is_linked name l) d m l)
     ∙ ap (λ (ns : List (List ℕ)). l.name ∷ ns) (same-names name d m ls)
 
-as-many : (name : List ℕ) (d m : FollowOption) (ls : List LinkRecord) → length (map (ruled name d m) ls) ≡ length ls
+as-many : (name : List ℕ) (d m : FollowOption) (ls : List LinkRecord) → length (map (with_follow_rules name d m) ls) ≡ length ls
 as-many name d m [] = refl
 as-many name d m (l ∷ ls) = ap suc (as-many name d m ls)
 
 pub with-rules : (s : Store) (name : List ℕ) (d m : FollowOption) → IsStore s
-    → IsStore (record s { links = map (ruled name d m) s.links })
+    → IsStore (record s { links = map (with_follow_rules name d m) s.links })
 with-rules s name d m valid = record {
   types = valid.types;
   types_writable = valid.types_writable;

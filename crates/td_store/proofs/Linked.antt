@@ -10,7 +10,7 @@ use Rattle.std.proofs.lemmas.Map.Keys.{IsDistinct-head, IsDistinct-tail}
 use Rattle.td_value.specs.declared.enumerations.FollowOption.{FollowOption}
 use Rattle.td_store.specs.declared.record.LinkRecord.{LinkRecord}
 use Rattle.td_store.specs.LinkNames.{same_key}
-use Rattle.td_store.specs.LinkLists.{is_linked, link_of, without_link, ruled}
+use Rattle.td_store.specs.LinkLists.{is_linked, link_of, without_link, with_follow_rules}
 use Rattle.td_types.proofs.Equal.{bytes_same, bytes_eq-sym}
 
 abbrev pub Pairs : Type 0
@@ -102,7 +102,7 @@ some_same x y h = cc
 module _ (name : List ℕ) (d m : FollowOption) where
   unruled_apart : (key : Vec ℕ Global) (pairs : Pairs) → HaveNames pairs
       → AllByRecursion (λ k. same_key key k ≡ false) (keys_of pairs) → name ≡ key.items
-      → map (ruled name d m) (values_of pairs) ≡ values_of pairs
+      → map (with_follow_rules name d m) (values_of pairs) ≡ values_of pairs
   unruled_apart key [] h a same = refl
   unruled_apart key (p ∷ pairs) h a same =
       let other : is_linked name p.1 ≡ false =
@@ -111,7 +111,7 @@ module _ (name : List ℕ) (d m : FollowOption) where
 
   pub rules_set : (pairs : Pairs) (e : LinkRecord) → HaveNames pairs → IsDistinct same_key (keys_of pairs)
       → lookup (is_key name) pairs ≡ Some e
-      → values_of (set_value (is_key name) pairs (rule_so d m e)) ≡ map (ruled name d m) (values_of pairs)
+      → values_of (set_value (is_key name) pairs (rule_so d m e)) ≡ map (with_follow_rules name d m) (values_of pairs)
   rules_set [] e h a f = refl
   rules_set (p ∷ pairs) e h a f =
       let k = key_is name p.0 p.1 h.0 in
@@ -130,7 +130,7 @@ module _ (name : List ℕ) (d m : FollowOption) where
       ]
 
   pub nothing_ruled : (pairs : Pairs) → HaveNames pairs → lookup (is_key name) pairs ≡ None
-      → map (ruled name d m) (values_of pairs) ≡ values_of pairs
+      → map (with_follow_rules name d m) (values_of pairs) ≡ values_of pairs
   nothing_ruled [] h f = refl
   nothing_ruled (p ∷ pairs) h f =
       let k = key_is name p.0 p.1 h.0 in

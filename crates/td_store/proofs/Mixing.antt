@@ -11,7 +11,7 @@ use Rattle.std.proofs.lemmas.Bool.{cases_Bool, eqb-true}
 use Rattle.std.specs.BTreeMap.{BTreeMap}
 use Rattle.td_store.specs.Candidates.{is_among}
 use Rattle.td_store.specs.OfferLists.{is_of, offer_of}
-use Rattle.td_store.specs.Searches.{AreApart, AreChained}
+use Rattle.td_store.specs.Searches.{AreDistinct, AreChained}
 use Rattle.td_store.specs.Slabs.{Slab}
 use Rattle.td_store.specs.Walks.{values_of}
 use Rattle.td_store.specs.declared.record.OfferRecord.{OfferRecord}
@@ -49,7 +49,7 @@ pub passes-none : (xs : List OfferRecord) → filter (is_among []) xs ≡ []
 passes-none [] = refl
 passes-none (x ∷ xs) = passes-none xs
 
-pub all-types : (offers : List OfferRecord) (types : List ℕ) → AreApart types
+pub all-types : (offers : List OfferRecord) (types : List ℕ) → AreDistinct types
     → IsPermutation (flat_map (λ i. filter (is_of i) offers) types) (filter (is_among types) offers)
 all-types offers [] a =
     subst (λ (t : List OfferRecord). IsPermutation [] t) (sym (passes-none offers)) (IsPermutation-refl [])
@@ -69,7 +69,7 @@ module _ (slab : Slab OfferRecord) (chains : BTreeMap ℕ ℕ) (offers : List Of
       ap (λ (t : List OfferRecord). t ++ values_of slab.slots slab.chains chains types) (held.each i)
       ∙ ap (λ (t : List OfferRecord). filter (is_of i) offers ++ t) (values-are types)
 
-  pub few-steps : (types : List ℕ) (began more : ℕ) → AreApart types
+  pub few-steps : (types : List ℕ) (began more : ℕ) → AreDistinct types
       → more ≤ began + length types + length (values_of slab.slots slab.chains chains types)
       → more ≤ began + length types + length (filter (is_among types) offers)
   few-steps types began more apart most =
@@ -105,7 +105,7 @@ twice now (x ∷ xs) = ap (λ (t : List ℕ). (now x).number ∷ t) (twice now x
 
 pub in-order : {R : Type 0} (now : R → OfferRecord) (slab : Slab OfferRecord) (chains : BTreeMap ℕ ℕ)
     (offers : List OfferRecord) (types : List ℕ) (found sorted : List R)
-    → AreChained slab chains offers → AreApart types → map now found ≡ values_of slab.slots slab.chains chains types
+    → AreChained slab chains offers → AreDistinct types → map now found ≡ values_of slab.slots slab.chains chains types
     → IsPermutation found sorted → IsNonDecreasingBy (λ r. (now r).number) sorted
     → map now sorted ≡ filter (is_among types) offers
 in-order now slab chains offers types found sorted held apart gathered moved up =

@@ -17,7 +17,7 @@ use Rattle.td_store.specs.Homes.{AreChains, HoldsOffers}
 use Rattle.td_store.specs.OfferLists.{offer_of, without_offer, with_properties, is_numbered}
 use Rattle.td_store.specs.OfferPlaces.{changed_at, with_changed}
 use Rattle.td_store.specs.Puts.{IsPut, IsAsBefore}
-use Rattle.td_store.specs.Slabs.{Slab, value_at, chain_of, held, with_value, without, Takes}
+use Rattle.td_store.specs.Slabs.{Slab, value_at, chain_of, held, with_value, without, RemovesValue}
 use Rattle.td_store.specs.declared.record.OfferRecord.{OfferRecord}
 use Rattle.td_store.proofs.Changed.{offers-changed, homes-changed}
 use Rattle.td_store.proofs.Gone.{offers-fewer, homes-fewer}
@@ -231,7 +231,7 @@ chain-map p (suc c) (x ∷ xs) = chain-map p c xs
 
 module _ (old new : Slab OfferRecord) (numbers : List (ℕ × ℕ)) (chains : BTreeMap ℕ ℕ) (ordinary proxies n p : ℕ)
     (h : HoldsOffers old numbers chains ordinary proxies)
-    (found : lookup (is_at (nat_cmp n)) numbers ≡ Some p) (t : Takes old new p) where
+    (found : lookup (is_at (nat_cmp n)) numbers ≡ Some p) (t : RemovesValue old new p) where
   abbrev home : (o : OfferRecord) × (value_at old.slots p ≡ Some o) × (o.number ≡ n)
   home = home-of (value_at old.slots) n p numbers h.homes.numbered found
 

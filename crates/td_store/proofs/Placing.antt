@@ -7,8 +7,8 @@ use Rattle.td_store.specs.declared.joint.Joint.{Joint}
 use Rattle.td_store.specs.declared.slot.Slot.{Slot}
 use Rattle.td_store.specs.declared.slot.Slot.TheVariants.{Occupied}
 use Rattle.td_store.specs.Slots.{value_of}
-use Rattle.td_store.specs.Rings.{Linked, after, before, with_last}
-use Rattle.td_store.specs.Slabs.{Slab, is_in, without, value_at, held, Puts}
+use Rattle.td_store.specs.Rings.{AreLinked, after, before, with_last}
+use Rattle.td_store.specs.Slabs.{Slab, is_in, without, value_at, held, InsertsValue}
 use Rattle.td_store.specs.Kept.{place_of, slab_of, IsSlab}
 use Rattle.td_store.proofs.Core.{either}
 use Rattle.td_store.proofs.Keeping.{slots-set, grown-kept, same-view}
@@ -16,7 +16,7 @@ use Rattle.td_store.proofs.Reading.{none-if}
 use Rattle.td_store.proofs.Putting.{Readied, put-kept, put-view, new-ready, new-off, new-unused, new-few, free-ready}
 use Rattle.td_store.proofs.Putting.{free-within, free-unused, none_from}
 
-module _ {T : Type 0} (js : List Joint) (l : Linked js) (items : List (Slot T)) (count a b : ℕ) (given : T)
+module _ {T : Type 0} (js : List Joint) (l : AreLinked js) (items : List (Slot T)) (count a b : ℕ) (given : T)
     (s : IsSlab (map value_of items) l.0 (length js) count) where
   pub room : 3 * length items ≤ length js
   room = omega (arith, s.room_slots, length-map items value_of)
@@ -95,10 +95,10 @@ module _ {T : Type 0} (js : List Joint) (l : Linked js) (items : List (Slot T)) 
           (length (map value_of items)) a b given s ready more whole limit la lb apart are_here)
 
       pub new-puts : (p : ℕ) → p ≡ length items → (v : Slab T) → slab_of (map value_of items) l.0 count ≡ v
-          → Puts v (slab_of (map value_of news) others count) a b given p
+          → InsertsValue v (slab_of (map value_of news) others count) a b given p
       new-puts p at v shown =
-          subst (λ (t : List (Option T)). Puts v (slab_of t others count) a b given p) (sym same_slots)
-          (subst (λ (q : ℕ). Puts v (slab_of (map value_of items ++ Some given ∷ []) others count) a b given q)
+          subst (λ (t : List (Option T)). InsertsValue v (slab_of t others count) a b given p) (sym same_slots)
+          (subst (λ (q : ℕ). InsertsValue v (slab_of (map value_of items ++ Some given ∷ []) others count) a b given q)
           (length-map items value_of ∙ sym at)
           (put-view (map value_of items) (map value_of items ++ Some given ∷ []) l.0 l.0 others (length js) m
           count (length (map value_of items)) a b given s ready more whole limit la lb apart are_here
@@ -159,10 +159,10 @@ module _ {T : Type 0} (js : List Joint) (l : Linked js) (items : List (Slot T)) 
             s ready_free (omega arith) s.whole s.limit la lb apart are))
 
         pub free-puts : (p : ℕ) → p ≡ h / 3 → (v : Slab T) → slab_of (map value_of items) l.0 count ≡ v
-            → Puts v (slab_of (map value_of news) others count) a b given p
+            → InsertsValue v (slab_of (map value_of news) others count) a b given p
         free-puts p at v shown =
-            subst (λ (t : List (Option T)). Puts v (slab_of t others count) a b given p) (sym same_set)
-            (subst (λ (q : ℕ). Puts v (slab_of (set (map value_of items) (h / 3) (Some given)) others count) a b
+            subst (λ (t : List (Option T)). InsertsValue v (slab_of t others count) a b given p) (sym same_set)
+            (subst (λ (q : ℕ). InsertsValue v (slab_of (set (map value_of items) (h / 3) (Some given)) others count) a b
             given q)
             (sym at)
             (put-view (map value_of items) (set (map value_of items) (h / 3) (Some given)) l.0

@@ -10,7 +10,7 @@ use Rattle.std.proofs.lemmas.Bool.{cases_eq, cases_lt, ne_eqb, eq-eqb, eqb-false
 use Rattle.std.proofs.lemmas.Bool.{not-true, lt-ltb, le-ltb}
 use mathlib.Core.Logic.{◌≢◌}
 use Rattle.td_store.specs.Rings.{IsLink, Path, with_last}
-use Rattle.td_store.specs.Slabs.{Slab, is_in, without, value_at, held, Puts}
+use Rattle.td_store.specs.Slabs.{Slab, is_in, without, value_at, held, InsertsValue}
 use Rattle.td_store.specs.Kept.{place_of, slab_of, has, IsSlab}
 use Rattle.td_store.proofs.Core.{either, without-here, without-same, without-is_in, no_again, first-is}
 use Rattle.td_store.proofs.Entering.{with_last-here, with_last-other, with_last-is_in}
@@ -158,9 +158,9 @@ module _ {T : Type 0} (slots news : List (Option T)) (rings base others : ℕ �
       ∙ ap (λ t. cond t (map place_of (rings (c + 1)) ++ p ∷ []) (map place_of (rings (c + 1)))) (ne_eqb c b e))))
 
   pub put-view : (f : ℕ → ℕ) → ((k : ℕ) → Path f (3 * k) (rings k) (3 * k)) → (v : Slab T)
-      → slab_of slots rings count ≡ v → Puts v (slab_of news others count) a b given p
+      → slab_of slots rings count ≡ v → InsertsValue v (slab_of news others count) a b given p
   put-view f paths v e =
-      subst (λ (w : Slab T). Puts w (slab_of news others count) a b given p) e (record {
+      subst (λ (w : Slab T). InsertsValue w (slab_of news others count) a b given p) e (record {
         unused = none_from (value_at slots p) r.unused;
         value = r.value;
         others = λ q d. r.others q (eqb-false q p d);

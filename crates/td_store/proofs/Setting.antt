@@ -11,7 +11,7 @@ use Rattle.std.proofs.lemmas.List.{length-map, append-nil}
 use Rattle.std.proofs.lemmas.List.Elements.{filter-append}
 use mathlib.Core.Logic.{◌≢◌}
 use Rattle.td_store.specs.Puts.{IsAsBefore}
-use Rattle.td_store.specs.Slabs.{Slab, is_in, chain_of, held, without, Puts, Takes}
+use Rattle.td_store.specs.Slabs.{Slab, is_in, chain_of, held, without, InsertsValue, RemovesValue}
 use Rattle.td_store.specs.declared.record.OfferRecord.{OfferRecord}
 use Rattle.td_store.proofs.Homing.{either}
 use Rattle.td_store.proofs.Keeping.{without-absent}
@@ -39,8 +39,8 @@ back-when true p ps off = gone-last p ps off
 back-when false p ps off = without-absent p ps off
 
 -- put and taken back
-pub put-back : (old mid new : Slab OfferRecord) (a b : ℕ) (o : OfferRecord) (p : ℕ) → Puts old mid a b o p
-    → Takes mid new p → IsAsBefore old new
+pub put-back : (old mid new : Slab OfferRecord) (a b : ℕ) (o : OfferRecord) (p : ℕ) → InsertsValue old mid a b o p
+    → RemovesValue mid new p → IsAsBefore old new
 put-back old mid new a b o p put taken = record {
   values = λ q. either (cases_eq q p)
       (λ (e : q ≡ p). rw e (taken.value ∙ sym put.unused))

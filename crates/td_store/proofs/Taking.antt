@@ -6,7 +6,7 @@ use Rattle.std.proofs.lemmas.List.{get_or-set_same, get_or-set_other, length-set
 use Rattle.std.proofs.lemmas.Bool.{cases_eq, eqb-false, lt-ltb}
 use mathlib.Core.Logic.{◌≢◌}
 use Rattle.td_store.specs.Rings.{with_last, Path}
-use Rattle.td_store.specs.Slabs.{Slab, is_in, without, held, Takes}
+use Rattle.td_store.specs.Slabs.{Slab, is_in, without, held, RemovesValue}
 use Rattle.td_store.specs.Kept.{place_of, slab_of, has, IsSlab}
 use Rattle.td_store.proofs.Core.{either, without-here, without-other, without-same, without-is_in}
 use Rattle.td_store.proofs.Entering.{with_last-here, with_last-other, with_last-is_in, with_last-has}
@@ -160,9 +160,9 @@ module _ {T : Type 0} (slots : List (Option T)) (rings others : ℕ → List ℕ
       }
 
   pub taken-view : (f : ℕ → ℕ) → ((k : ℕ) → Path f (3 * k) (rings k) (3 * k)) → (v : Slab T)
-      → slab_of slots rings count ≡ v → Takes v (slab_of (set slots p None) others count) p
+      → slab_of slots rings count ≡ v → RemovesValue v (slab_of (set slots p None) others count) p
   taken-view f paths v e =
-      subst (λ (w : Slab T). Takes w (slab_of (set slots p None) others count) p) e (record {
+      subst (λ (w : Slab T). RemovesValue w (slab_of (set slots p None) others count) p) e (record {
         value = get_or-set_same slots p None None within;
         others = λ q d. get_or-set_other slots p q None None (eqb-false q p d);
         spare = ap length spared ∙ length_push (rings 0) (3 * p + 1);
@@ -181,6 +181,6 @@ module _ {T : Type 0} (slots : List (Option T)) (rings others : ℕ → List ℕ
 
   pub taken-shows : (left : List (Option T)) → left ≡ set slots p None → (f : ℕ → ℕ)
       → ((k : ℕ) → Path f (3 * k) (rings k) (3 * k)) → (v : Slab T) → slab_of slots rings count ≡ v
-      → Takes v (slab_of left others count) p
+      → RemovesValue v (slab_of left others count) p
   taken-shows left d f paths v e =
-      subst (λ (t : List (Option T)). Takes v (slab_of t others count) p) (sym d) (taken-view f paths v e)
+      subst (λ (t : List (Option T)). RemovesValue v (slab_of t others count) p) (sym d) (taken-view f paths v e)

@@ -4,7 +4,7 @@ use Rattle.std.proofs.lemmas.List.{length-set}
 use Rattle.std.proofs.lemmas.Bool.{cases_eq, cases_lt}
 use mathlib.Core.Logic.{◌≢◌}
 use Rattle.td_store.specs.declared.joint.Joint.{Joint}
-use Rattle.td_store.specs.Rings.{joint_at, after, before, ring, Fits}
+use Rattle.td_store.specs.Rings.{joint_at, after, before, ring, AreRingsOf}
 use Rattle.td_store.proofs.Core.{either}
 use Rattle.td_store.proofs.Sets.{at-same, at-other, at-past}
 
@@ -67,7 +67,7 @@ is-rewired js a v c w x j s t la lc lx es et =
 
 -- ---- no index leads past the end
 
-pub before-in : (js : List Joint) (rings : ℕ → List ℕ) (x : ℕ) → Fits js rings → x < length js → before js x < length js
+pub before-in : (js : List Joint) (rings : ℕ → List ℕ) (x : ℕ) → AreRingsOf js rings → x < length js → before js x < length js
 before-in js rings x f l =
     either (cases_lt (before js x) (length js))
     (λ (h : before js x < length js). h)
@@ -75,7 +75,7 @@ before-in js rings x f l =
     let same : x ≡ before js x = sym (f.back x) ∙ ap (λ z. z.after) (at-past js (before js x) h) in
     absurd (omega arith))
 
-pub after-in : (js : List Joint) (rings : ℕ → List ℕ) (x : ℕ) → Fits js rings → x < length js → after js x < length js
+pub after-in : (js : List Joint) (rings : ℕ → List ℕ) (x : ℕ) → AreRingsOf js rings → x < length js → after js x < length js
 after-in js rings x f l =
     either (cases_lt (after js x) (length js))
     (λ (h : after js x < length js). h)

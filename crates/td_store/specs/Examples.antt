@@ -1,12 +1,12 @@
 -- Worked examples: a trader with the types Device, Printer below it, and Scanner. Device has a readonly property and
 -- one of mode normal, which Printer inherits.
 use Rattle.std.specs.Prelude.{ℕ, Bool, true, false, List, [], ◌∷◌, map, codes, None, Some}
-use Rattle.td_codes.specs.declared.code.Any.{Any}
-use Rattle.td_codes.specs.declared.code.Member.{Member}
-use Rattle.td_codes.specs.declared.code.TypeCode.{TypeCode}
-use Rattle.td_codes.specs.declared.code.TypeCode.TheVariants as code
-use Rattle.td_codes.specs.declared.code.Value.TheVariants as value
-use Rattle.td_codes.specs.declared.reference.Ior.{Ior}
+use Rattle.td_typecode.specs.declared.code.Any.{Any}
+use Rattle.td_typecode.specs.declared.code.Member.{Member}
+use Rattle.td_typecode.specs.declared.code.TypeCode.{TypeCode}
+use Rattle.td_typecode.specs.declared.code.TypeCode.TheVariants as code
+use Rattle.td_typecode.specs.declared.code.Value.TheVariants as value
+use Rattle.td_typecode.specs.declared.reference.Ior.{Ior}
 use Rattle.td_value.specs.Dynamic.{dynamic_id}
 use Rattle.td_value.specs.declared.enumerations.PropertyMode.{PropertyMode}
 use Rattle.td_value.specs.declared.enumerations.PropertyMode.TheVariants.{Normal, Readonly}
@@ -67,8 +67,9 @@ printer_renewed = device_type ∷ scanner_type ∷ printer_type 4 ∷ []
 
 -- ---- offers
 
-abbrev pub given : List ℕ → Property
-given name = record { name = name; value = record { code = code.ULong; value = value.ULong 7 } }
+abbrev pub plain_property : List ℕ → Property
+plain_property name =
+    record { name = name; value = record { code = code.ULong; value = value.ULong 7 } }
 
 abbrev pub member : TypeCode → Member
 member c = record { name = []; code = c }
@@ -84,8 +85,8 @@ abbrev pub nothing_more : Any
 nothing_more = record { code = code.Null; value = value.Empty }
 
 -- a property whose value an evaluator tells when it is asked
-abbrev pub evaluated : List ℕ → Property
-evaluated name = record {
+abbrev pub dynamic_property : List ℕ → Property
+dynamic_property name = record {
   name = name;
   value = record {
     code = dynamic_code;
@@ -104,17 +105,17 @@ offer n name incarnation properties = record {
   proxy = None;
 }
 
-abbrev pub proxied : OfferRecord → OfferRecord
-proxied o = record o {
+abbrev pub as_proxy : OfferRecord → OfferRecord
+as_proxy o = record o {
   proxy = Some
       (record { if_match_all = false; recipe = codes "$*"; policies = [] });
 }
 
 abbrev pub serial : Property
-serial = given (codes "Serial")
+serial = plain_property (codes "Serial")
 
 abbrev pub queue : Property
-queue = given (codes "Queue")
+queue = plain_property (codes "Queue")
 
 -- One of Device and four of Printer, of which one is a proxy offer, one has a dynamic property and one has one of mode
 -- normal; and one of Scanner.
@@ -122,8 +123,8 @@ abbrev pub offers : List OfferRecord
 offers =
     offer 1 device 1 (serial ∷ [])
     ∷ offer 2 printer 2 (serial ∷ [])
-    ∷ proxied (offer 3 printer 2 (serial ∷ []))
-    ∷ offer 4 printer 2 (serial ∷ evaluated (codes "Queue") ∷ [])
+    ∷ as_proxy (offer 3 printer 2 (serial ∷ []))
+    ∷ offer 4 printer 2 (serial ∷ dynamic_property (codes "Queue") ∷ [])
     ∷ offer 5 printer 2 (serial ∷ queue ∷ [])
     ∷ offer 6 scanner 3 []
     ∷ []

@@ -12,6 +12,6 @@ pub record HasConformingType (types : List ServiceType) (asked : List ℕ)
   pub conforming : IsTrue (conforms types o.service_type asked)
 
 -- an ordinary offer without dynamic properties
-pub record IsPlain (o : OfferRecord) : Type 0 where
+pub record IsStaticOffer (o : OfferRecord) : Type 0 where
   pub ordinary : o.proxy ≡ None
   pub fixed : has_dynamic o.properties ≡ false

@@ -16,8 +16,9 @@ abbrev pub without_link : List ℕ → List LinkRecord → List LinkRecord
 without_link name links = filter (λ l. not (is_linked name l)) links
 
 -- the link in its place, with other rules, if it has the name
-abbrev pub ruled : List ℕ → (def_pass_on limiting : FollowOption) → LinkRecord → LinkRecord
-ruled name def_pass_on limiting l =
+abbrev pub with_follow_rules : List ℕ → (def_pass_on limiting : FollowOption) → LinkRecord
+    → LinkRecord
+with_follow_rules name def_pass_on limiting l =
     if is_linked name l then record l { def_pass_on = def_pass_on; limiting = limiting } else l
 
 abbrev pub most_links : ℕ

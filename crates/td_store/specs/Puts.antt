@@ -1,13 +1,13 @@
 -- An offer that is put on the slab under its number, or not.
 use Rattle.std.specs.Prelude.{◌≡◌, ℕ, List, [], ◌∷◌, ◌++◌, length}
-use Rattle.td_store.specs.Slabs.{Slab, value_at, chain_of, held, Puts}
+use Rattle.td_store.specs.Slabs.{Slab, value_at, chain_of, held, InsertsValue}
 use Rattle.td_store.specs.declared.record.OfferRecord.{OfferRecord}
 
 -- it is at a place, to which its number leads, as the last
 pub record IsPut (old new : Slab OfferRecord) (of_type of_kind : ℕ) (offer : OfferRecord)
     (numbers after : List (ℕ × ℕ)) : Type 0 where
   pub place : ℕ
-  pub puts : Puts old new of_type of_kind offer place
+  pub puts : InsertsValue old new of_type of_kind offer place
   pub noted : after ≡ numbers ++ (offer.number, place) ∷ []
 
 -- each place and each chain is as it was

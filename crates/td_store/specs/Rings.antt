@@ -39,8 +39,8 @@ abbrev pub with_last : ℕ → ℕ → (ℕ → List ℕ) → ℕ → List ℕ
 with_last e x rings k = cond (k == e) (rings k ++ x ∷ []) (rings k)
 
 -- the rings with both links of a place, each at the end of one
-abbrev pub entered : (place first second : ℕ) → (ℕ → List ℕ) → ℕ → List ℕ
-entered place first second rings = with_last second (3 * place + 2)
+abbrev pub with_links : (place first second : ℕ) → (ℕ → List ℕ) → ℕ → List ℕ
+with_links place first second rings = with_last second (3 * place + 2)
     (with_last first (3 * place + 1) rings)
 
 -- the rings without a link
@@ -48,15 +48,16 @@ abbrev pub left : ℕ → (ℕ → List ℕ) → ℕ → List ℕ
 left link rings k = without link (rings k)
 
 -- the rings with a place among the free ones
-abbrev pub freed : (place : ℕ) → (ℕ → List ℕ) → ℕ → List ℕ
-freed place rings = with_last 0 (3 * place + 1) (left (3 * place + 2) (left (3 * place + 1) rings))
+abbrev pub with_free : (place : ℕ) → (ℕ → List ℕ) → ℕ → List ℕ
+with_free place rings = with_last 0 (3 * place + 1)
+    (left (3 * place + 2) (left (3 * place + 1) rings))
 
 -- there are as many joints as before, or three more since there were too few for these rows
 abbrev pub GrowsFor : (rows old new : ℕ) → Type 0
 GrowsFor rows old new = (new ≡ old) ⊎ ((old < 3 * rows) × (new ≡ old + 3))
 
 -- the rings are those that the joints make
-pub record Fits (js : List Joint) (rings : ℕ → List ℕ) : Type 0 where
+pub record AreRingsOf (js : List Joint) (rings : ℕ → List ℕ) : Type 0 where
   pub forth : (q : ℕ) → before js (after js q) ≡ q
   pub back : (q : ℕ) → after js (before js q) ≡ q
   pub paths : (k : ℕ) → Path (after js) (3 * k) (rings k) (3 * k)
@@ -64,8 +65,8 @@ pub record Fits (js : List Joint) (rings : ℕ → List ℕ) : Type 0 where
   pub alone : (q : ℕ) → IsLink q → ((k : ℕ) → is_in q (rings k) ≡ false) → after js q ≡ q
 
 -- the joints make rings, and which ones
-abbrev pub Linked : List Joint → Type 0
-Linked js = (rings : ℕ → List ℕ) × Fits js rings
+abbrev pub AreLinked : List Joint → Type 0
+AreLinked js = (rings : ℕ → List ℕ) × AreRingsOf js rings
 
 -- ---- there is one such family of rings at most
 
@@ -90,15 +91,16 @@ Path-prop : (f : ℕ → ℕ) (from : ℕ) (xs : List ℕ) (to : ℕ) → IsProp
 Path-prop f from [] to = ℕ-set (f from) to
 Path-prop f from (x ∷ xs) to = ×_prop (ℕ-set (f from) x) (×_prop le_prop (Path-prop f x xs to))
 
-Fits-prop : (js : List Joint) (rings : ℕ → List ℕ) → IsProp (Fits js rings)
+Fits-prop : (js : List Joint) (rings : ℕ → List ℕ) → IsProp (AreRingsOf js rings)
 Fits-prop js rings = hlevel (ℕ-set, Coded-set coded_bool, le_prop, Path-prop)
 
-pub Linked-prop : (js : List Joint) → IsProp (Linked js)
+pub Linked-prop : (js : List Joint) → IsProp (AreLinked js)
 Linked-prop js l m =
     Σ_prop_path (Fits-prop js)
     (fun_ext (λ k. same_path (after js) (3 * k) k (l.0 k) (m.0 k) (l.1.paths k) (m.1.paths k)))
 
 -- and so they are any family that fits
-pub rings_are : (js : List Joint) (l : Linked js) (rings : ℕ → List ℕ) → Fits js rings → (k : ℕ)
+pub rings_are : (js : List Joint) (l : AreLinked js) (rings : ℕ → List ℕ) → AreRingsOf js rings
+    → (k : ℕ)
     → l.0 k ≡ rings k
-rings_are js l rings f k = ap (λ (z : Linked js). z.0 k) (Linked-prop js l (rings, f))
+rings_are js l rings f k = ap (λ (z : AreLinked js). z.0 k) (Linked-prop js l (rings, f))

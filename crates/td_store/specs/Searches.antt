@@ -12,9 +12,9 @@ use Rattle.td_store.specs.Walks.{values_on, places_on}
 use Rattle.td_store.specs.declared.record.OfferRecord.{OfferRecord}
 
 -- no number stands twice
-abbrev pub AreApart : List ℕ → Type 0
-AreApart [] = Unit {0}
-AreApart (x ∷ xs) = (list_any (nat_eq x) xs ≡ false) × AreApart xs
+abbrev pub AreDistinct : List ℕ → Type 0
+AreDistinct [] = Unit {0}
+AreDistinct (x ∷ xs) = (list_any (nat_eq x) xs ≡ false) × AreDistinct xs
 
 -- the one or none
 abbrev pub only : Option ℕ → List ℕ
@@ -22,8 +22,8 @@ only None = []
 only (Some i) = i ∷ []
 
 -- the incarnations of the types whose offers are looked at
-abbrev pub searched : List ServiceType → (exact : Bool) → (asked : List ℕ) → List ℕ
-searched types exact asked = if exact then only (incarnation_of types asked)
+abbrev pub searched_types : List ServiceType → (exact : Bool) → (asked : List ℕ) → List ℕ
+searched_types types exact asked = if exact then only (incarnation_of types asked)
     else subtypes types asked
 
 -- these are the offers by rising number, and those of each incarnation stand on its chain

@@ -57,7 +57,8 @@ module _ {T : Type 0} where
   with_value s place value = record s { slots = slice_set s.slots place (Some value) }
 
   -- the value went to a place that had none, a free one first, and to the end of both chains
-  pub record Puts (old new : Slab T) (first second : ℕ) (given : T) (place : ℕ) : Type 0 where
+  pub record InsertsValue (old new : Slab T) (first second : ℕ) (given : T) (place : ℕ) :
+      Type 0 where
     pub unused : value_at old.slots place ≡ None
     pub value : value_at new.slots place ≡ Some given
     pub others : (other : ℕ) → other == place ≡ false → value_at new.slots other
@@ -72,7 +73,7 @@ module _ {T : Type 0} where
         (chain_of old.chains c)
 
   -- the place has no value any more, and no chain has the place
-  pub record Takes (old new : Slab T) (place : ℕ) : Type 0 where
+  pub record RemovesValue (old new : Slab T) (place : ℕ) : Type 0 where
     pub value : value_at new.slots place ≡ None
     pub others : (other : ℕ) → other == place ≡ false → value_at new.slots other
         ≡ value_at old.slots other

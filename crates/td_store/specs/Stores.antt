@@ -6,7 +6,7 @@ use Rattle.std.specs.List.{AllByRecursion, IsDistinct}
 use Rattle.std.specs.Str.{bytes_eq}
 use Rattle.td_cdr.specs.Sound.{text, sequence}
 use Rattle.td_cdr.specs.declared.order.Order.TheVariants.{Big}
-use Rattle.td_codes.specs.References.{reference}
+use Rattle.td_typecode.specs.References.{reference}
 use Rattle.td_value.specs.Structures.{policy, offer, offer_info, link_info}
 use Rattle.td_value.specs.declared.structures.LinkInfo.{LinkInfo}
 use Rattle.td_value.specs.declared.structures.OfferInfo.{OfferInfo}

@@ -10,7 +10,7 @@ use td_cdr::Memory;
 pub enum StoreFault {
     /// As many are there as may be.
     Full,
-    /// Want of memory.
+    /// Out of memory.
     Memory,
 }
 

@@ -19,7 +19,7 @@ use td_cdr::{List, Memory};
 ///
 /// # Errors
 ///
-/// `Memory` for want of memory alone.
+/// `Memory` only when out of memory.
 pub(crate) fn gather<'a, T, L: Ledger>(
     slab: &'a Slab<T>,
     chain: u32,
@@ -56,7 +56,7 @@ fn chain_at(chains: &BTreeMap<u64, u32>, incarnation: u64) -> Option<u32>
 ///
 /// # Errors
 ///
-/// `Memory` for want of memory alone.
+/// `Memory` only when out of memory.
 fn gather_from<'a, T, L: Ledger>(
     slab: &'a Slab<T>,
     chain: Option<u32>,
@@ -80,7 +80,7 @@ fn gather_from<'a, T, L: Ledger>(
 ///
 /// # Errors
 ///
-/// `Memory` for want of memory alone.
+/// `Memory` only when out of memory.
 pub(crate) fn gather_all<'a, T, L: Ledger>(
     slab: &'a Slab<T>,
     chains: &BTreeMap<u64, u32>,
@@ -104,7 +104,7 @@ pub(crate) fn gather_all<'a, T, L: Ledger>(
 ///
 /// # Errors
 ///
-/// `Memory` for want of memory alone.
+/// `Memory` only when out of memory.
 pub(crate) fn numbers_on(
     alloc: Global,
     slab: &Slab<OfferRecord>,
@@ -140,7 +140,7 @@ fn counted_numbers<L: Ledger>(
 ///
 /// # Errors
 ///
-/// `Memory` for want of memory alone.
+/// `Memory` only when out of memory.
 fn numbers_of(alloc: Global, offers: &[&OfferRecord]) -> Result<List<u32>, Memory>
     ensures { IfOk result (λ numbers. numbers ≡ map (λ o. o.number) (map (λ r. r.now) offers.now)) }
 {

@@ -6,7 +6,7 @@ ghost use Rattle.std.specs.List.{AllByRecursion};
 ghost use Rattle.std.specs.Ordering.{nat_cmp};
 ghost use Rattle.td_store.specs.Homes.{AreChains, places_of};
 ghost use Rattle.td_store.specs.Puts.{IsPut, IsAsBefore};
-ghost use Rattle.td_store.specs.Slabs.{chain_of, held, Puts};
+ghost use Rattle.td_store.specs.Slabs.{chain_of, held, InsertsValue};
 
 use crate::record::OfferRecord;
 use crate::slab::Slab;
@@ -17,7 +17,7 @@ use td_cdr::Memory;
 ///
 /// # Errors
 ///
-/// `Memory` for want of memory alone; the chains of all incarnations are then as before.
+/// `Memory` only when out of memory; the chains of all incarnations are then as before.
 pub(crate) fn chain_for(
     slab: &mut Slab<OfferRecord>,
     chains: &mut BTreeMap<u64, u32>,
@@ -66,7 +66,7 @@ fn add_chain_for(
 ///
 /// # Errors
 ///
-/// `Memory` for want of memory alone; each place, each chain and all numbers are then as before.
+/// `Memory` only when out of memory; each place, each chain and all numbers are then as before.
 pub(crate) fn put_offer(
     slab: &mut Slab<OfferRecord>,
     numbers: &mut BTreeMap<u32, u32>,
@@ -108,7 +108,8 @@ fn put_at(
     requires second { of_kind < length slab.old.chains }
     requires apart { of_type ≢ of_kind }
     requires room { held slab.old.slots < 2 ^ 32 - 1 }
-    ensures put { IfOk result (λ place. Puts slab.old slab.new of_type of_kind offer place) }
+    ensures put { IfOk result (λ place. InsertsValue slab.old slab.new of_type of_kind offer
+        place) }
     ensures err { OnErr result (slab.new ≡ slab.old) }
 {
     match slab.put(of_type, of_kind, offer) {

@@ -12,8 +12,8 @@ ghost use Rattle.td_value.specs.declared.structures.Property.{Property};
 ghost use Rattle.td_store.specs.Candidates.{candidates, has_conforming_type};
 ghost use Rattle.td_store.specs.Examples.{device, dynamic_used, exactly, found, modifiable_used, printer};
 ghost use Rattle.td_store.specs.Examples.{printer_masked, printer_renewed, proxies_used, scanner, types, usual};
-ghost use Rattle.td_store.specs.Laws.{HasConformingType, IsPlain};
-ghost use Rattle.td_store.specs.LinkLists.{most_links, link_of, ruled, without_link};
+ghost use Rattle.td_store.specs.Laws.{HasConformingType, IsStaticOffer};
+ghost use Rattle.td_store.specs.LinkLists.{most_links, link_of, with_follow_rules, without_link};
 ghost use Rattle.td_store.specs.OfferLists.{most_offers, offer_of, without_offer, with_properties, NumbersRise};
 ghost use Rattle.td_store.specs.Stores.{AdmitsLink, IsOffer, IsStore};
 ghost use Rattle.td_store.specs.declared.record.LinkRecord.{LinkRecord};
@@ -34,7 +34,7 @@ pub fn candidates_conform()
 pub fn plain_offers_are_searched()
     ensures { (types : List ServiceType) (a : Attributes) (asked : List ℕ)
         (offers : List OfferRecord)
-        → AllByRecursion IsPlain offers →
+        → AllByRecursion IsStaticOffer offers →
         candidates types a nothing asked (length offers) offers
         ≡ filter (has_conforming_type types asked) offers }
 {}
@@ -77,7 +77,8 @@ pub fn stores_stay_valid()
     ensures remove_link { (s : Store) (name : List ℕ) → IsStore s
         → IsStore (record s { links = without_link name s.links }) }
     ensures set_rules { (s : Store) (name : List ℕ) (def_pass_on limiting : FollowOption)
-        → IsStore s → IsStore (record s { links = map (ruled name def_pass_on limiting) s.links }) }
+        → IsStore s → IsStore
+        (record s { links = map (with_follow_rules name def_pass_on limiting) s.links }) }
 {}
 
 /// Worked examples over the types Device, Printer below it, and Scanner, with six offers: 1 is of Device,

@@ -1,7 +1,7 @@
 //! The links of a trader.
 
 ghost use Rattle.std.specs.Prelude.{◌≡◌, [], ◌∷◌, ◌++◌, None, length, map, IfOk, OnOk, OnErr, option_copied};
-ghost use Rattle.td_store.specs.LinkLists.{most_links, link_of, ruled, without_link};
+ghost use Rattle.td_store.specs.LinkLists.{most_links, link_of, with_follow_rules, without_link};
 ghost use Rattle.td_store.specs.OfferLists.{IsLimited};
 
 use crate::fault::StoreFault;
@@ -57,7 +57,7 @@ impl Links {
     ///
     /// # Errors
     ///
-    /// `Full` exactly where there are as many as may be; `Memory` for want of memory. The links are
+    /// `Full` exactly where there are as many as may be; `Memory` when out of memory. The links are
     /// then as before, and this one is dropped.
     pub fn insert(&mut self, alloc: Global, link: LinkRecord) -> Result<(), StoreFault>
         requires fresh { link_of self.old link.name ≡ None }
@@ -85,7 +85,7 @@ impl Links {
 
     /// Gives the link of a name other rules, in its place, if there is one. Takes no memory.
     pub fn set_rules(&mut self, name: &Text, def_pass_on: FollowOption, limiting: FollowOption)
-        ensures { self.new ≡ map (ruled name.now def_pass_on limiting) self.old }
+        ensures { self.new ≡ map (with_follow_rules name.now def_pass_on limiting) self.old }
     {
         if let Some(link) = self.named.get_mut(name.as_slice()) {
             link.def_pass_on = def_pass_on;
@@ -104,7 +104,7 @@ impl Links {
     ///
     /// # Errors
     ///
-    /// `Memory` for want of memory alone.
+    /// `Memory` only when out of memory.
     pub fn names(&self, alloc: Global) -> Result<List<Text>, Memory>
         ensures { IfOk result (λ names. names ≡ map (λ l. l.name) self.now) }
     {
@@ -115,7 +115,7 @@ impl Links {
     ///
     /// # Errors
     ///
-    /// `Memory` for want of memory alone.
+    /// `Memory` only when out of memory.
     pub fn records(&self, alloc: Global) -> Result<List<LinkRecord>, Memory>
         ensures { IfOk result (λ links. links ≡ self.now) }
     {
@@ -127,7 +127,7 @@ impl Links {
 ///
 /// # Errors
 ///
-/// `Memory` for want of memory alone.
+/// `Memory` only when out of memory.
 fn names_of(alloc: Global, links: &[LinkRecord]) -> Result<List<Text>, Memory>
     ensures { IfOk result (λ names. names ≡ map (λ l. l.name) links.now) }
 {
@@ -142,7 +142,7 @@ fn names_of(alloc: Global, links: &[LinkRecord]) -> Result<List<Text>, Memory>
 ///
 /// # Errors
 ///
-/// `Memory` for want of memory alone.
+/// `Memory` only when out of memory.
 fn records_of(alloc: Global, links: &[LinkRecord]) -> Result<List<LinkRecord>, Memory>
     ensures { IfOk result (λ records. records ≡ links.now) }
 {

@@ -14,7 +14,7 @@ use crate::gathering::numbers_on;
 use crate::inserting::{chain_for, put_offer};
 use crate::looking::{change_properties, look};
 use crate::record::OfferRecord;
-use crate::search::{candidates, conforming, of_conforming_types, searched};
+use crate::search::{candidates, conforming, of_conforming_types, searched_types};
 use crate::slab::Slab;
 use crate::steps::Steps;
 use std::alloc::Global;
@@ -59,8 +59,8 @@ impl Drop for Offers {
 impl Model for Offers {
     ghost use Rattle.std.specs.Prelude.{List};
     ghost use Rattle.std.specs.Coded.{codes};
-    ghost use Rattle.td_codes.specs.contracts.code.TypeCode as code;
-    ghost use Rattle.td_codes.specs.contracts.code.Value as value;
+    ghost use Rattle.td_typecode.specs.contracts.code.TypeCode as code;
+    ghost use Rattle.td_typecode.specs.contracts.code.Value as value;
     ghost use Rattle.td_store.specs.declared.record.OfferRecord.{OfferRecord as an_offer};
     ghost use Rattle.td_store.specs.Homes.{offers_in, HoldsOffers};
 
@@ -78,7 +78,7 @@ impl Offers {
     ///
     /// # Errors
     ///
-    /// `Memory` for want of memory alone.
+    /// `Memory` only when out of memory.
     pub fn new(alloc: Global) -> Result<Offers, Memory>
         ensures { IfOk result (λ o. o ≡ []) }
     {
@@ -106,7 +106,7 @@ impl Offers {
     ///
     /// # Errors
     ///
-    /// `Full` exactly where there are as many as may be; `Memory` for want of memory. The offers are
+    /// `Full` exactly where there are as many as may be; `Memory` when out of memory. The offers are
     /// then as before, and this one is dropped.
     pub fn insert(&mut self, offer: OfferRecord) -> Result<(), StoreFault>
         requires above { AllByRecursion (λ o. o.number < offer.number) self.old }
@@ -164,7 +164,7 @@ impl Offers {
     ///
     /// # Errors
     ///
-    /// `Memory` for want of memory alone.
+    /// `Memory` only when out of memory.
     pub fn candidates<L: Ledger>(
         &self,
         alloc: Global,
@@ -179,7 +179,7 @@ impl Offers {
             ≡ candidates types.now.types attributes.now stated.now asked.now count self.now) }
         ensures steps { steps.new ≤ steps.old + most_steps types.now.types asked.now self.now }
     {
-        let incarnations = searched(alloc, types, is_exact(stated), asked)?;
+        let incarnations = searched_types(alloc, types, is_exact(stated), asked)?;
         let offers = conforming(
             alloc,
             &self.slab,
@@ -203,7 +203,7 @@ impl Offers {
     ///
     /// # Errors
     ///
-    /// `Memory` for want of memory alone.
+    /// `Memory` only when out of memory.
     pub fn conforming<'a, L: Ledger>(
         &'a self,
         alloc: Global,
@@ -215,7 +215,7 @@ impl Offers {
             ≡ filter (has_conforming_type types.now.types asked.now) self.now) }
         ensures steps { steps.new ≤ steps.old + most_steps types.now.types asked.now self.now }
     {
-        let incarnations = searched(alloc, types, false, asked)?;
+        let incarnations = searched_types(alloc, types, false, asked)?;
         let offers = conforming(
             alloc,
             &self.slab,
@@ -230,7 +230,7 @@ impl Offers {
     ///
     /// # Errors
     ///
-    /// `Memory` for want of memory alone.
+    /// `Memory` only when out of memory.
     pub fn ids(&self, alloc: Global, proxies: bool) -> Result<List<u32>, Memory>
         ensures { IfOk result (λ numbers. numbers
             ≡ map (λ o. o.number) (filter (is_of_kind proxies) self.now)) }

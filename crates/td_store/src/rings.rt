@@ -2,7 +2,7 @@
 
 ghost use Rattle.std.specs.Prelude.{◌≡◌, ◌<◌, ◌+◌, ◌*◌, ℕ, false, Ok, length, ◌^◌, OnOk, OnErr, [], ◌∷◌, ◌++◌};
 ghost use Rattle.std.specs.Prelude.{if◌then◌else◌, ◌==◌};
-ghost use Rattle.td_store.specs.Rings.{Linked, Linked-prop, IsLink, with_last, loop, after};
+ghost use Rattle.td_store.specs.Rings.{AreLinked, Linked-prop, IsLink, with_last, loop, after};
 ghost use Rattle.td_store.specs.Slabs.{is_in, without};
 
 use crate::joint::Joint;
@@ -14,7 +14,7 @@ use td_cdr::Memory;
 pub(crate) struct Rings {
     pub(crate) joints: Vec<Joint>,
     /// The places reached over the joints of each ring.
-    pub(crate) ghost linked: { Linked joints.items } by { Linked-prop joints.items },
+    pub(crate) ghost linked: { AreLinked joints.items } by { Linked-prop joints.items },
 }
 
 impl Rings {
@@ -32,7 +32,7 @@ impl Rings {
     ///
     /// # Errors
     ///
-    /// `Memory` for want of memory alone; nothing has then changed.
+    /// `Memory` only when out of memory; nothing has then changed.
     pub(crate) fn grow(&mut self) -> Result<(), Memory>
         ensures ok { OnOk result (length self.new.joints.items ≡ length self.old.joints.items + 3) }
         ensures err { OnErr result (length self.new.joints.items ≡ length self.old.joints.items) }

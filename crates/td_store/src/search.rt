@@ -2,7 +2,7 @@
 
 ghost use Rattle.std.specs.Prelude.{◌≡◌, ◌+◌, ◌≤◌, List as Row, filter, length, map, IfOk};
 ghost use Rattle.td_store.specs.Candidates.{candidates, has_conforming_type, is_among};
-ghost use Rattle.td_store.specs.Searches.{AreApart, AreChained, only, searched};
+ghost use Rattle.td_store.specs.Searches.{AreDistinct, AreChained, only, searched_types};
 ghost use Rattle.td_store.specs.declared.record.OfferRecord.{OfferRecord as an_offer};
 
 use crate::condition::{has_conforming_type, is_candidate};
@@ -21,15 +21,16 @@ use td_types::Types;
 ///
 /// # Errors
 ///
-/// `Memory` for want of memory alone.
-pub(crate) fn searched(
+/// `Memory` only when out of memory.
+pub(crate) fn searched_types(
     alloc: Global,
     types: &Types,
     exact: bool,
     asked: &Text,
 ) -> Result<List<u64>, Memory>
-    ensures answer { IfOk result (λ numbers. numbers ≡ searched types.now.types exact asked.now) }
-    ensures apart { IfOk result AreApart }
+    ensures answer { IfOk result (λ numbers. numbers
+        ≡ searched_types types.now.types exact asked.now) }
+    ensures apart { IfOk result AreDistinct }
 {
     if exact {
         only(alloc, types.incarnation_of(asked.as_slice()))
@@ -42,7 +43,7 @@ pub(crate) fn searched(
 ///
 /// # Errors
 ///
-/// `Memory` for want of memory alone.
+/// `Memory` only when out of memory.
 fn only(alloc: Global, incarnation: Option<u64>) -> Result<List<u64>, Memory>
     ensures { IfOk result (λ numbers. numbers ≡ only incarnation) }
 {
@@ -58,7 +59,7 @@ fn only(alloc: Global, incarnation: Option<u64>) -> Result<List<u64>, Memory>
 ///
 /// # Errors
 ///
-/// `Memory` for want of memory alone.
+/// `Memory` only when out of memory.
 pub(crate) fn conforming<'a, L: Ledger>(
     alloc: Global,
     slab: &'a Slab<OfferRecord>,
@@ -66,7 +67,7 @@ pub(crate) fn conforming<'a, L: Ledger>(
     incarnations: &[u64],
     steps: &mut Steps<L>,
 ) -> Result<Vec<&'a OfferRecord>, Memory>
-    requires apart { AreApart incarnations.now }
+    requires apart { AreDistinct incarnations.now }
     ensures ok { (offers : Row an_offer) → AreChained slab.now chains.now offers →
         IfOk result (λ v. map (λ o. o.now) v.items ≡ filter (is_among incarnations.now) offers) }
     ensures steps { (offers : Row an_offer) → AreChained slab.now chains.now offers →
@@ -83,7 +84,7 @@ pub(crate) fn conforming<'a, L: Ledger>(
 ///
 /// # Errors
 ///
-/// `Memory` for want of memory alone.
+/// `Memory` only when out of memory.
 pub(crate) fn candidates(
     alloc: Global,
     types: &Types,
@@ -113,7 +114,7 @@ pub(crate) fn candidates(
 ///
 /// # Errors
 ///
-/// `Memory` for want of memory alone.
+/// `Memory` only when out of memory.
 pub(crate) fn of_conforming_types<'a>(
     alloc: Global,
     types: &Types,

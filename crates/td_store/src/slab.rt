@@ -5,8 +5,8 @@ ghost use Rattle.std.specs.Prelude.{None, Some, IfOk, IfErr, OnOk, OnErr, OnSome
 ghost use Rattle.std.specs.Prelude.{IsSome, ⊤, true, false, option_copied, option_map, slice_set};
 ghost use Rattle.std.specs.Option.{option_copied_mut};
 ghost use Rattle.std.specs.Borrow.{sem};
-ghost use Rattle.td_store.specs.Slabs.{chain_of, value_at, held, is_in, first_of, IsNext, Puts, Takes};
-ghost use Rattle.td_store.specs.Rings.{entered, left, freed, GrowsFor};
+ghost use Rattle.td_store.specs.Slabs.{chain_of, value_at, held, is_in, first_of, IsNext, InsertsValue, RemovesValue};
+ghost use Rattle.td_store.specs.Rings.{with_links, left, with_free, GrowsFor};
 ghost use Rattle.td_store.specs.Kept.{next_place, place_of};
 ghost use Rattle.td_store.specs.Slots.{value_of};
 
@@ -50,7 +50,7 @@ impl<T> Slab<T> {
     ///
     /// # Errors
     ///
-    /// `Memory` for want of memory alone.
+    /// `Memory` only when out of memory.
     pub fn new(alloc: Global) -> Result<Slab<T>, Memory>
         ensures { IfOk result (λ s. s ≡ record { slots = []; chains = []; spare = 0 }) }
     {
@@ -67,7 +67,7 @@ impl<T> Slab<T> {
     ///
     /// # Errors
     ///
-    /// `Memory` for want of memory alone; nothing has then changed.
+    /// `Memory` only when out of memory; nothing has then changed.
     pub fn add_chain(&mut self) -> Result<u32, Memory>
         requires few { length self.old.chains < 2 ^ 32 - 1 }
         ensures ok { IfOk result (λ c. c ≡ length self.old.chains) }
@@ -85,13 +85,14 @@ impl<T> Slab<T> {
     ///
     /// # Errors
     ///
-    /// The value with `Memory` for want of memory alone; nothing has then changed. No free place wants memory.
+    /// The value with `Memory` only when out of memory; nothing has then changed. No free place runs out of memory.
     pub fn put(&mut self, first: u32, second: u32, value: T) -> Result<u32, (T, Memory)>
         requires first { first < length self.old.chains }
         requires second { second < length self.old.chains }
         requires apart { first ≢ second }
         requires room { held self.old.slots < 2 ^ 32 - 1 }
-        ensures ok { IfOk result (λ place. Puts self.old self.new first second value place) }
+        ensures ok { IfOk result (λ place. InsertsValue self.old self.new first second value
+            place) }
         ensures err { OnErr result (self.new ≡ self.old) }
         ensures value { IfErr result (λ e. e.0 ≡ value) }
         ensures memory { OnErr result (self.old.spare ≡ 0) }
@@ -124,7 +125,7 @@ impl<T> Slab<T> {
     pub fn take(&mut self, place: u32) -> Option<T>
         ensures value { result ≡ value_at self.old.slots place }
         ensures none { MatchOption result (self.new ≡ self.old)
-            (λ _. Takes self.old self.new place) }
+            (λ _. RemovesValue self.old self.new place) }
     {
         let place = place as usize;
         if place >= self.values.len() {
@@ -247,7 +248,7 @@ fn place_at(joint: usize) -> Option<u32>
 fn free(rings: &mut Rings, place: usize)
     requires within { 3 * place + 2 < length rings.old.joints.items }
     ensures len { length rings.new.joints.items ≡ length rings.old.joints.items }
-    ensures rings { (k : ℕ) → rings.new.linked.0 k ≡ freed place rings.old.linked.0 k }
+    ensures rings { (k : ℕ) → rings.new.linked.0 k ≡ with_free place rings.old.linked.0 k }
 {
     let first = 3 * place + 1;
     rings.unlink(first);
@@ -264,7 +265,7 @@ fn enter(rings: &mut Rings, place: usize, first: usize, second: usize)
     requires second_off { (k : ℕ) → is_in (3 * place + 2) (rings.old.linked.0 k) ≡ false }
     ensures len { length rings.new.joints.items ≡ length rings.old.joints.items }
     ensures rings { (k : ℕ) → rings.new.linked.0 k
-        ≡ entered place first second rings.old.linked.0 k }
+        ≡ with_links place first second rings.old.linked.0 k }
 {
     let link = 3 * place + 1;
     rings.append(link, first);
@@ -275,7 +276,7 @@ fn enter(rings: &mut Rings, place: usize, first: usize, second: usize)
 ///
 /// # Errors
 ///
-/// `Memory` for want of memory alone.
+/// `Memory` only when out of memory.
 fn reserve(rings: &mut Rings, rows: usize) -> Result<(), Memory>
     requires near { 3 * rows ≤ length rings.old.joints.items + 3 }
     ensures ok { OnOk result (3 * rows ≤ length rings.new.joints.items) }
@@ -313,7 +314,7 @@ fn next_on(rings: &Rings, ring: usize, place: usize) -> Option<Option<u32>>
 ///
 /// # Errors
 ///
-/// The value with `Memory` for want of memory alone.
+/// The value with `Memory` only when out of memory.
 fn put_new<T>(
     values: &mut Vec<Slot<T>>,
     rings: &mut Rings,
@@ -332,7 +333,7 @@ fn put_new<T>(
     ensures place { IfOk result (λ place. place ≡ length values.old.items) }
     ensures slots { OnOk result (values.new.items ≡ values.old.items ++ Slot.Occupied value ∷ []) }
     ensures rings { OnOk result ((k : ℕ) → rings.new.linked.0 k
-        ≡ entered (length values.old.items) first second rings.old.linked.0 k) }
+        ≡ with_links (length values.old.items) first second rings.old.linked.0 k) }
     ensures grown { OnOk result (3 * (length values.old.items + 1)
         ≤ length rings.new.joints.items) }
     ensures len { GrowsFor (length values.old.items + 1) (length rings.old.joints.items)
@@ -374,7 +375,7 @@ fn put_free<T>(
     ensures slots { values.new.items ≡ slice_set values.old.items place (Slot.Occupied value) }
     ensures len { length rings.new.joints.items ≡ length rings.old.joints.items }
     ensures rings { (k : ℕ) → rings.new.linked.0 k
-        ≡ entered place first second (left (3 * place + 1) rings.old.linked.0) k }
+        ≡ with_links place first second (left (3 * place + 1) rings.old.linked.0) k }
 {
     rings.unlink(3 * place + 1);
     values[place].fill(value);

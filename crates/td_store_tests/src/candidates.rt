@@ -116,13 +116,13 @@ pub(crate) fn query(
     store: &Store,
     word: &str,
     rest: &str,
-    told: &mut Vec<u8>,
+    content: &mut Vec<u8>,
 ) -> Result<(), Memory> {
     let (asked, rest) = cut(rest);
     let (count, policies) = cut(rest);
     let asked = text(alloc, asked, 0)?;
     if word == "conforming" {
-        return conforming::<Brand>(alloc, store, &asked, told, Blank::new(1));
+        return conforming::<Brand>(alloc, store, &asked, content, Blank::new(1));
     }
     let stated = stated_of(alloc, policies)?;
     search::<Brand>(
@@ -131,7 +131,7 @@ pub(crate) fn query(
         stated.get(),
         &asked,
         ulong_of(count),
-        told,
+        content,
         Blank::new(1),
     )
 }
@@ -142,7 +142,7 @@ fn search<L: Ledger>(
     stated: &Stated,
     asked: &Text,
     count: u32,
-    told: &mut Vec<u8>,
+    content: &mut Vec<u8>,
     blank: Blank,
 ) -> Result<(), Memory>
     requires name { blank.name ≡ L.name }
@@ -159,7 +159,7 @@ fn search<L: Ledger>(
         count,
         &mut steps,
     ) {
-        Ok(found) => put_found(alloc, told, found.as_slice()),
+        Ok(found) => put_found(alloc, content, found.as_slice()),
         Err(memory) => Err(memory),
     }
 }
@@ -168,7 +168,7 @@ fn conforming<L: Ledger>(
     alloc: Global,
     store: &Store,
     asked: &Text,
-    told: &mut Vec<u8>,
+    content: &mut Vec<u8>,
     blank: Blank,
 ) -> Result<(), Memory>
     requires name { blank.name ≡ L.name }
@@ -180,21 +180,25 @@ fn conforming<L: Ledger>(
         .offers
         .conforming(alloc, &store.types, asked, &mut steps)
     {
-        Ok(found) => put_conforming(alloc, told, found.as_slice()),
+        Ok(found) => put_conforming(alloc, content, found.as_slice()),
         Err(memory) => Err(memory),
     }
 }
 
-fn put_found(alloc: Global, told: &mut Vec<u8>, found: &[OfferRecord]) -> Result<(), Memory> {
+fn put_found(alloc: Global, content: &mut Vec<u8>, found: &[OfferRecord]) -> Result<(), Memory> {
     for offer in found {
-        put_number(alloc, told, Some(offer.number as u64))?;
+        put_number(alloc, content, Some(offer.number as u64))?;
     }
     Ok(())
 }
 
-fn put_conforming(alloc: Global, told: &mut Vec<u8>, found: &[&OfferRecord]) -> Result<(), Memory> {
+fn put_conforming(
+    alloc: Global,
+    content: &mut Vec<u8>,
+    found: &[&OfferRecord],
+) -> Result<(), Memory> {
     for offer in found {
-        put_number(alloc, told, Some(offer.number as u64))?;
+        put_number(alloc, content, Some(offer.number as u64))?;
     }
     Ok(())
 }

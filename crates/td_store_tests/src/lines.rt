@@ -70,9 +70,9 @@ pub(crate) fn first_wrong(alloc: Global, store: &mut Store, lines: &'static str)
 fn is_so(alloc: Global, store: &mut Store, line: &str) -> bool {
     let (asked, expected) = line.split_once(" =").unwrap_or((line, ""));
     let (word, rest) = cut(asked);
-    let mut told = Vec::new(alloc);
-    match perform(alloc, store, word, rest, &mut told) {
-        Ok(()) => told.as_slice() == expected.as_bytes(),
+    let mut content = Vec::new(alloc);
+    match perform(alloc, store, word, rest, &mut content) {
+        Ok(()) => content.as_slice() == expected.as_bytes(),
         Err(_) => false,
     }
 }
@@ -83,20 +83,20 @@ fn perform(
     store: &mut Store,
     word: &str,
     rest: &str,
-    told: &mut Vec<u8>,
+    content: &mut Vec<u8>,
 ) -> Result<(), Memory> {
     match word {
-        "add" => add(alloc, &mut store.types, rest, 0, told),
+        "add" => add(alloc, &mut store.types, rest, 0, content),
         "remove" | "mask" | "unmask" | "describe" | "fully" | "list" => {
-            call(alloc, &mut store.types, word, rest, told)
+            call(alloc, &mut store.types, word, rest, content)
         }
-        "each" => each(alloc, store, rest, told),
-        "link" => link(alloc, &mut store.links, rest, 0, told),
-        "unlink" | "rules" => change_link(alloc, &mut store.links, word, rest, told),
-        "withdraw" | "modify" => change_offer(alloc, &mut store.offers, word, rest, told),
+        "each" => each(alloc, store, rest, content),
+        "link" => link(alloc, &mut store.links, rest, 0, content),
+        "unlink" | "rules" => change_link(alloc, &mut store.links, word, rest, content),
+        "withdraw" | "modify" => change_offer(alloc, &mut store.offers, word, rest, content),
         "set" => set(&mut store.attributes, rest),
-        "follow" => follow_rules(alloc, &mut store.attributes, rest, told),
-        _ => ask(alloc, store, word, rest, told),
+        "follow" => follow_rules(alloc, &mut store.attributes, rest, content),
+        _ => ask(alloc, store, word, rest, content),
     }
 }
 
@@ -106,31 +106,41 @@ fn ask(
     store: &Store,
     word: &str,
     rest: &str,
-    told: &mut Vec<u8>,
+    content: &mut Vec<u8>,
 ) -> Result<(), Memory> {
     match word {
-        "query" | "conforming" => query(alloc, store, word, rest, told),
-        "serve" => serve(alloc, &store.attributes, rest, told),
-        "read" => read(alloc, rest, told),
-        "state" => state(alloc, rest, told),
-        "attributes" | "copied_attributes" => see_attributes(alloc, &store.attributes, word, told),
-        "how_many_offers" => put_number(alloc, told, Some(store.offers.len() as u64)),
-        "offer" | "copied_offer" => see_offer(alloc, &store.offers, word, rest, told),
-        "ids" | "proxies" => see_ids(alloc, &store.offers, word, told),
-        "links" | "how_many_links" => see_links(alloc, &store.links, word, told),
-        "link_of" | "copied_link" => see_link(alloc, &store.links, word, rest, told),
-        _ => look(alloc, &store.types, word, rest, told),
+        "query" | "conforming" => query(alloc, store, word, rest, content),
+        "serve" => serve(alloc, &store.attributes, rest, content),
+        "read" => read(alloc, rest, content),
+        "state" => state(alloc, rest, content),
+        "attributes" | "copied_attributes" => see_attributes(
+            alloc,
+            &store.attributes,
+            word,
+            content,
+        ),
+        "how_many_offers" => put_number(alloc, content, Some(store.offers.len() as u64)),
+        "offer" | "copied_offer" => see_offer(alloc, &store.offers, word, rest, content),
+        "ids" | "proxies" => see_ids(alloc, &store.offers, word, content),
+        "links" | "how_many_links" => see_links(alloc, &store.links, word, content),
+        "link_of" | "copied_link" => see_link(alloc, &store.links, word, rest, content),
+        _ => look(alloc, &store.types, word, rest, content),
     }
 }
 
 /// Performs the calls of `FIRST END CALLS` for each number from the first to that before the end. Between two calls
 /// stands `|`. Tells what those of the last number answer.
-fn each(alloc: Global, store: &mut Store, words: &str, told: &mut Vec<u8>) -> Result<(), Memory> {
+fn each(
+    alloc: Global,
+    store: &mut Store,
+    words: &str,
+    content: &mut Vec<u8>,
+) -> Result<(), Memory> {
     let (first, rest) = cut(words);
     let (end, calls) = cut(rest);
     for number in number_of(first)..number_of(end) {
-        told.clear();
-        perform_numbered(alloc, store, calls, number, told)?;
+        content.clear();
+        perform_numbered(alloc, store, calls, number, content)?;
     }
     Ok(())
 }
@@ -140,13 +150,13 @@ fn perform_numbered(
     store: &mut Store,
     calls: &str,
     number: u64,
-    told: &mut Vec<u8>,
+    content: &mut Vec<u8>,
 ) -> Result<(), Memory> {
     for call in calls.split('|') {
         let (word, rest) = cut(call);
         match word {
-            "link" => link(alloc, &mut store.links, rest, number, told)?,
-            _ => add(alloc, &mut store.types, rest, number, told)?,
+            "link" => link(alloc, &mut store.links, rest, number, content)?,
+            _ => add(alloc, &mut store.types, rest, number, content)?,
         }
     }
     Ok(())

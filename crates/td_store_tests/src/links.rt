@@ -62,16 +62,16 @@ pub(crate) fn link(
     links: &mut Links,
     name: &str,
     number: u64,
-    told: &mut Vec<u8>,
+    content: &mut Vec<u8>,
 ) -> Result<(), Memory> {
     let link = link_named(alloc, name, number)?;
     if links.get(&link.name).is_some() {
         drop(link);
-        return put(told, b"exists");
+        return put(content, b"exists");
     }
     match links.insert(alloc, link) {
-        Ok(()) => put(told, b"added"),
-        Err(StoreFault::Full) => put(told, b"Full"),
+        Ok(()) => put(content, b"added"),
+        Err(StoreFault::Full) => put(content, b"Full"),
         Err(StoreFault::Memory) => Err(Memory),
     }
 }
@@ -95,7 +95,7 @@ pub(crate) fn change_link(
     links: &mut Links,
     word: &str,
     rest: &str,
-    told: &mut Vec<u8>,
+    content: &mut Vec<u8>,
 ) -> Result<(), Memory> {
     let (name, rules) = cut(rest);
     let name = text(alloc, name, 0)?;
@@ -105,8 +105,8 @@ pub(crate) fn change_link(
         return Ok(());
     }
     match links.remove(&name) {
-        None => put_text(told, None),
-        Some(link) => put_text(told, Some(link.name.get())),
+        None => put_text(content, None),
+        Some(link) => put_text(content, Some(link.name.get())),
     }
 }
 
@@ -115,14 +115,14 @@ pub(crate) fn see_links(
     alloc: Global,
     links: &Links,
     word: &str,
-    told: &mut Vec<u8>,
+    content: &mut Vec<u8>,
 ) -> Result<(), Memory> {
     let names = links.names(alloc)?;
     if word == "links" {
-        return put_names(told, names.as_slice());
+        return put_names(content, names.as_slice());
     }
-    put_number(alloc, told, Some(names.len() as u64))?;
-    put_text(told, names.as_slice().last())
+    put_number(alloc, content, Some(names.len() as u64))?;
+    put_text(content, names.as_slice().last())
 }
 
 /// Tells what the link of a name has, or what a copy of it has.
@@ -131,26 +131,26 @@ pub(crate) fn see_link(
     links: &Links,
     word: &str,
     name: &str,
-    told: &mut Vec<u8>,
+    content: &mut Vec<u8>,
 ) -> Result<(), Memory> {
     let name = text(alloc, name, 0)?;
     match links.get(&name) {
-        None => put(told, b"none"),
+        None => put(content, b"none"),
         Some(link) => {
             if word == "link_of" {
-                return put_link(alloc, told, link);
+                return put_link(alloc, content, link);
             }
             let twin = link.copy(alloc)?;
-            put_link(alloc, told, &twin)
+            put_link(alloc, content, &twin)
         }
     }
 }
 
 /// The name, the ids of the Lookup and of the Register, and both rules.
-fn put_link(alloc: Global, told: &mut Vec<u8>, link: &LinkRecord) -> Result<(), Memory> {
-    put(told, link.name.as_slice())?;
-    put(told, link.target.id.as_slice())?;
-    put(told, link.register.id.as_slice())?;
-    put_number(alloc, told, Some(link.def_pass_on.number() as u64))?;
-    put_number(alloc, told, Some(link.limiting.number() as u64))
+fn put_link(alloc: Global, content: &mut Vec<u8>, link: &LinkRecord) -> Result<(), Memory> {
+    put(content, link.name.as_slice())?;
+    put(content, link.target.id.as_slice())?;
+    put(content, link.register.id.as_slice())?;
+    put_number(alloc, content, Some(link.def_pass_on.number() as u64))?;
+    put_number(alloc, content, Some(link.limiting.number() as u64))
 }

@@ -84,15 +84,15 @@ pub(crate) fn change_offer(
     offers: &mut Offers,
     word: &str,
     rest: &str,
-    told: &mut Vec<u8>,
+    content: &mut Vec<u8>,
 ) -> Result<(), Memory> {
     let (number, words) = cut(rest);
     let number = ulong_of(number);
     match word {
-        "withdraw" => put_number(alloc, told, removed(offers, number)),
+        "withdraw" => put_number(alloc, content, removed(offers, number)),
         _ => {
             let properties = shared(alloc, offer_properties(alloc, words))?;
-            put_truth(told, Some(offers.modify(number, properties)))
+            put_truth(content, Some(offers.modify(number, properties)))
         }
     }
 }
@@ -110,11 +110,11 @@ pub(crate) fn see_ids(
     alloc: Global,
     offers: &Offers,
     word: &str,
-    told: &mut Vec<u8>,
+    content: &mut Vec<u8>,
 ) -> Result<(), Memory> {
     let ids = offers.ids(alloc, word == "proxies")?;
     for id in ids.as_slice() {
-        put_number(alloc, told, Some(*id as u64))?;
+        put_number(alloc, content, Some(*id as u64))?;
     }
     Ok(())
 }
@@ -125,25 +125,25 @@ pub(crate) fn see_offer(
     offers: &Offers,
     word: &str,
     number: &str,
-    told: &mut Vec<u8>,
+    content: &mut Vec<u8>,
 ) -> Result<(), Memory> {
     match offers.get(ulong_of(number)) {
-        None => put(told, b"none"),
+        None => put(content, b"none"),
         Some(offer) => {
             if word == "offer" {
-                return put_offer(alloc, told, offer);
+                return put_offer(alloc, content, offer);
             }
             let twin = offer.copy(alloc)?;
-            put_offer(alloc, told, &twin)
+            put_offer(alloc, content, &twin)
         }
     }
 }
 
 /// The number, the type, its incarnation, how many properties there are, and whether it is a proxy offer.
-fn put_offer(alloc: Global, told: &mut Vec<u8>, offer: &OfferRecord) -> Result<(), Memory> {
-    put_number(alloc, told, Some(offer.number as u64))?;
-    put(told, offer.service_type.as_slice())?;
-    put_number(alloc, told, Some(offer.incarnation))?;
-    put_number(alloc, told, Some(offer.properties.len() as u64))?;
-    put_truth(told, Some(offer.proxy.is_some()))
+fn put_offer(alloc: Global, content: &mut Vec<u8>, offer: &OfferRecord) -> Result<(), Memory> {
+    put_number(alloc, content, Some(offer.number as u64))?;
+    put(content, offer.service_type.as_slice())?;
+    put_number(alloc, content, Some(offer.incarnation))?;
+    put_number(alloc, content, Some(offer.properties.len() as u64))?;
+    put_truth(content, Some(offer.proxy.is_some()))
 }

@@ -9,10 +9,10 @@ use Rattle.td_giop.proofs.Cond.{cond_case}
 use Rattle.td_stream.specs.Messages.{IsForServer, behind, is_closing, kind_of, minor_of}
 use Rattle.td_stream.specs.declared.end.Cause.{Cause}
 use Rattle.td_stream.specs.declared.end.Cause.TheVariants.{NotForServer}
-use Rattle.td_stream.specs.Steps.{Step, answers, closes, breaks, step_of, request_step, cancel_step, locate_step}
+use Rattle.td_stream.specs.Steps.{MessageStep, answers, closes, breaks, step_of, request_step, cancel_step, locate_step}
 
 -- what holds of the steps of each type of message holds of the step
-by_type : (P : Step → Type 0) (m : List ℕ) → (kind_of m ≡ 0 → P (request_step (request_at (minor_of m) (behind m))))
+by_type : (P : MessageStep → Type 0) (m : List ℕ) → (kind_of m ≡ 0 → P (request_step (request_at (minor_of m) (behind m))))
     → (kind_of m ≡ 2 → P (cancel_step (cancel_at (behind m))))
     → (kind_of m ≡ 3 → P (locate_step (locate_at (behind m))))
     → (kind_of m ≡ 1 → P (breaks NotForServer)) → (kind_of m ≡ 4 → P (breaks NotForServer))
@@ -26,7 +26,7 @@ by_type P m asks cancels locates replies located other =
     cond_case P (eqb (kind_of m) 4) _ _ (λ e. located (eqb-true _ _ e)) (λ n4.
     other (eqb-false _ _ n0) (eqb-false _ _ n1) (eqb-false _ _ n2) (eqb-false _ _ n3) (eqb-false _ _ n4))))))
 
-abbrev NeverBreaks : Step → Type 0
+abbrev NeverBreaks : MessageStep → Type 0
 NeverBreaks step = (cause : Cause) → step ≡ breaks cause → ⊥
 
 request_good : (r : Result (Request × At) CdrFault) → IsOk r → NeverBreaks (request_step r)

@@ -9,8 +9,8 @@ use Rattle.std.proofs.lemmas.List.Sums.{sum_by-cons, sum_by-append}
 use Rattle.std.specs.Io.KnownBytes.{Appends, Consumes, IsAtEnd}
 use Rattle.td_giop.specs.declared.fault.FrameFault.{FrameFault}
 use Rattle.td_giop.specs.Stream.{first_at}
-use Rattle.td_giop.specs.Cut.{Front, Fronts}
-use Rattle.td_giop.specs.Header.{Judged}
+use Rattle.td_giop.specs.Cut.{IsFirstMessage, Fronts}
+use Rattle.td_giop.specs.Header.{JudgesHeader}
 use Rattle.td_giop.proofs.Judged.{judged}
 use Rattle.td_giop.proofs.Framing.{bad_header, bad-append}
 use Rattle.td_giop.proofs.Cuts.{front_within, fronts_fed, message_front}
@@ -20,16 +20,16 @@ use Rattle.td_stream.specs.declared.end.Cause.{Cause}
 use Rattle.td_stream.specs.declared.end.End.{End}
 use Rattle.td_stream.specs.declared.end.End.TheVariants.{Closed, Broken, Truncated, ReadFault, WriteFault, Long}
 use Rattle.td_stream.specs.declared.end.End.TheVariants.{Memory}
-use Rattle.td_stream.specs.Exchanges.{Exchange, Run, messages_of, output, requests}
+use Rattle.td_stream.specs.Exchanges.{MessageExchange, Run, messages_of, output, requests}
 use Rattle.td_stream.specs.Outside.{Outside}
-use Rattle.td_stream.specs.Steps.{Step, closes, breaks, step_of}
-use Rattle.td_stream.specs.Streams.{Meets, HasReason, Gives, Streams, bytes_limit, request_limit}
+use Rattle.td_stream.specs.Steps.{MessageStep, closes, breaks, step_of}
+use Rattle.td_stream.specs.Streams.{FirstHasStep, HasReason, GivesReplies, Streams, bytes_limit, request_limit}
 use Rattle.td_stream.specs.Completeness.{NoneFailed, Completes}
 use Rattle.td_stream.proofs.ByType.{never_breaks, closes_only, answered_open}
 
 -- ---- messages in front of a stream
 
-no_front : (limit : ℕ) (s m : List ℕ) → s ≡ [] → Front limit s m → ⊥
+no_front : (limit : ℕ) (s m : List ℕ) → s ≡ [] → IsFirstMessage limit s m → ⊥
 no_front limit s m e front =
     let w = front_within limit s m front in
     let none : length s ≡ 0 = ap (length {A = ℕ}) e in
@@ -79,7 +79,7 @@ all_behind P xs (y ∷ ys) zs e h = all_behind P (ys ++ zs) ys zs refl (All-rest
 -- these messages, or nothing
 abbrev Stands : List ℕ → List (List ℕ) → Type 0
 Stands s [] = s ≡ []
-Stands s (m ∷ more) = Front message_limit s m × IsForServer m
+Stands s (m ∷ more) = IsFirstMessage message_limit s m × IsForServer m
 
 stands : (s : List ℕ) (more : List (List ℕ)) → Fronts message_limit s more [] → All IsForServer more → Stands s more
 stands s [] f all = f
@@ -91,7 +91,7 @@ AtClose [] = Unit {0}
 AtClose (m ∷ more) = is_closing m ≡ true
 
 -- the message that stands in front is the first of them
-the_first : (rest later : List ℕ) (step : Step) (more : List (List ℕ)) → Meets rest step
+the_first : (rest later : List ℕ) (step : MessageStep) (more : List (List ℕ)) → FirstHasStep rest step
     → Stands (rest ++ later) more → (P : List (List ℕ) → Type 0)
     → ((m : List ℕ) (others : List (List ℕ)) → IsForServer m → step_of m ≡ step → P (m ∷ others)) → P more
 the_first rest later step [] meets there P f =
@@ -106,13 +106,13 @@ the_first rest later step (m ∷ more) meets there P f =
     let same = same_front message_limit (rest ++ later) meets.message m fed.0 there.0 in
     f m more there.1 (sym (ap step_of same) ∙ meets.has_step)
 
-closes_first : (rest later : List ℕ) (more : List (List ℕ)) → Meets rest closes
+closes_first : (rest later : List ℕ) (more : List (List ℕ)) → FirstHasStep rest closes
     → Stands (rest ++ later) more → AtClose more
 closes_first rest later more meets there =
     the_first rest later closes more meets there AtClose (λ m others fit e. closes_only m fit e)
 
 breaks_none : (rest later : List ℕ) (cause : Cause) (more : List (List ℕ))
-    → Meets rest (breaks cause) → Stands (rest ++ later) more → ⊥
+    → FirstHasStep rest (breaks cause) → Stands (rest ++ later) more → ⊥
 breaks_none rest later cause more meets there =
     the_first rest later (breaks cause) more meets there (λ _. ⊥)
     (λ m others fit e. never_breaks m fit cause e)
@@ -123,7 +123,7 @@ no_fault : (rest later : List ℕ) (fault : FrameFault) (more : List (List ℕ))
 no_fault rest later fault [] bad there =
     let stays = bad-append message_limit rest later fault bad in
     let long =
-    (subst (Judged message_limit (rest ++ later)) (bad_header message_limit (rest ++ later) fault stays)
+    (subst (JudgesHeader message_limit (rest ++ later)) (bad_header message_limit (rest ++ later) fault stays)
     (judged message_limit (rest ++ later))).0 in
     let none : length (rest ++ later) ≡ 0 = ap (length {A = ℕ}) there in omega (arith, none, long)
 no_fault rest later fault (m ∷ more) bad there =
@@ -169,10 +169,10 @@ at_end (Some all) later e ended = sym (known_same all later e) ∙ ended
 
 -- ---- how the stream ends
 
-requests_are : (exchanges : List Exchange) → requests exchanges ≡ count_by is_request (messages_of exchanges)
+requests_are : (exchanges : List MessageExchange) → requests exchanges ≡ count_by is_request (messages_of exchanges)
 requests_are [] = refl
 requests_are (t ∷ exchanges) =
-    sum_by-cons (λ (u : Exchange). cond (is_request u.message) 1 0) t exchanges
+    sum_by-cons (λ (u : MessageExchange). cond (is_request u.message) 1 0) t exchanges
     ∙ ap (λ (n : ℕ). cond (is_request t.message) 1 0 + n) (requests_are exchanges)
     ∙ sym (sum_by-cons (λ (m : List ℕ). cond (is_request m) 1 0) t.message (messages_of exchanges))
 
@@ -229,13 +229,13 @@ closing_later m ms e =
 
 -- ---- the law
 
-given_all : (before after : Outside) (exchanges : List Exchange) (given : List ℕ) (end : End) → end ≡ Closed
-    → Gives end before after exchanges given → given ≡ output exchanges
-given_all before after exchanges given end e gives = subst (λ (x : End). Gives x before after exchanges given) e gives
+given_all : (before after : Outside) (exchanges : List MessageExchange) (given : List ℕ) (end : End) → end ≡ Closed
+    → GivesReplies end before after exchanges given → given ≡ output exchanges
+given_all before after exchanges given end e gives = subst (λ (x : End). GivesReplies x before after exchanges given) e gives
 
 module _ {V : Type 0} (serves : V → List ℕ → List ℕ → V → Type 0) (stays : V → V → Type 0) where
   -- they are those before the first that closes the stream
-  before_close : (s u : V) (ts : List Exchange) (more : List (List ℕ)) → Run serves s ts u → AtClose more
+  before_close : (s u : V) (ts : List MessageExchange) (more : List (List ℕ)) → Run serves s ts u → AtClose more
       → before_first is_closing (messages_of ts ++ more) ≡ messages_of ts
   before_close s u [] [] run at = refl
   before_close s u [] (m ∷ more) run at = closing_first m more at

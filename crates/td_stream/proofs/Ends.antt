@@ -7,23 +7,23 @@ use Rattle.std.proofs.KnownBytes.{Consumes-nil}
 use Rattle.std.specs.Io.KnownBytes.{Consumes, IsAtEnd}
 use Rattle.td_out.specs.declared.fault.Failed.{Failed as SinkFailed}
 use Rattle.td_giop.specs.declared.fault.FrameFault.{FrameFault}
-use Rattle.td_giop.specs.Stream.{Stream, first_at, dropped}
+use Rattle.td_giop.specs.Stream.{Stream, first_at, without_first}
 use Rattle.td_giop.proofs.Framing.{whole}
 use Rattle.td_stream.specs.Messages.{is_request, message_limit}
-use Rattle.td_stream.specs.Exchanges.{Exchange, requests}
+use Rattle.td_stream.specs.Exchanges.{MessageExchange, requests}
 use Rattle.td_stream.specs.declared.end.Cause.{Cause}
 use Rattle.td_stream.specs.declared.end.End.{End}
 use Rattle.td_stream.specs.declared.end.End.TheVariants.{Closed, Broken, Truncated, ReadFault, WriteFault, Long}
 use Rattle.td_stream.specs.declared.end.End.TheVariants.{Memory}
-use Rattle.td_stream.specs.Outbound.{Outbound, Puts, SendsAll, IsSent}
+use Rattle.td_stream.specs.Outbound.{Outbound, PutsReply, SendsAll, IsSent}
 use Rattle.td_stream.specs.OutboundLaws.{puts-then}
 use Rattle.td_stream.specs.Streams.{BreaksAt, bytes_limit, request_limit}
 use Rattle.td_stream.specs.Steps.{cause_of}
-use Rattle.td_stream.specs.Fronts.{Answers}
+use Rattle.td_stream.specs.Fronts.{AnswersMessage}
 use Rattle.td_stream.specs.Ends.{EndsInput, BreaksOff, EndsAtBad}
-use Rattle.td_stream.specs.Pieces.{Writes}
-use Rattle.td_out.specs.Told.{WritesAll}
-use Rattle.td_stream.specs.Progress.{stand, Moves, EndsAt, WritesLast, Advances}
+use Rattle.td_stream.specs.Pieces.{WritesFront}
+use Rattle.td_out.specs.SinkTexts.{WritesAll}
+use Rattle.td_stream.specs.Progress.{stand, StreamMoves, EndsAt, WritesLast, Advances}
 
 -- ---- sends
 
@@ -32,7 +32,7 @@ pub is_sent : (o p : Outbound) → SendsAll o p → p.failed ≡ false → IsSen
 is_sent o p sends works = record { held = sends.empty works; works = works }
 
 pub writes_of : (w0 w1 : Option (List ℕ)) (f0 f1 : ℕ) (piece : List ℕ) (r : Result (Unit {0}) SinkFailed)
-    → WritesAll w0 w1 f0 f1 piece r → Writes piece w0 w1 f0 f1
+    → WritesAll w0 w1 f0 f1 piece r → WritesFront piece w0 w1 f0 f1
 writes_of w0 w1 f0 f1 piece (Ok u) h = record {
   sent = length piece;
   gave = rw (take_all (length piece) piece (omega arith)) h.whole;
@@ -50,8 +50,8 @@ writes_of w0 w1 f0 f1 piece (Err e) h = record {
 
 -- what is held was sent, or some of it, and these bytes were taken
 pub moves_by : (l k : Option (List ℕ)) (r s : ℕ) (rest bytes next : List ℕ) (count later asked : ℕ) (o p : Outbound)
-    → Consumes l k bytes → r ≤ s → next ≡ rest ++ bytes → later ≡ count + length bytes → Puts [] o p
-    → Moves [] (stand l r rest count asked o) (stand k s next later asked p)
+    → Consumes l k bytes → r ≤ s → next ≡ rest ++ bytes → later ≡ count + length bytes → PutsReply [] o p
+    → StreamMoves [] (stand l r rest count asked o) (stand k s next later asked p)
 moves_by l k r s rest bytes next count later asked o p took reads is counted puts = record {
   taken = bytes;
   took = took;
@@ -62,8 +62,8 @@ moves_by l k r s rest bytes next count later asked o p took reads is counted put
   reads = reads;
 }
 
-pub idles : (l : Option (List ℕ)) (r : ℕ) (rest : List ℕ) (count asked : ℕ) (o p : Outbound) → Puts [] o p
-    → Moves [] (stand l r rest count asked o) (stand l r rest count asked p)
+pub idles : (l : Option (List ℕ)) (r : ℕ) (rest : List ℕ) (count asked : ℕ) (o p : Outbound) → PutsReply [] o p
+    → StreamMoves [] (stand l r rest count asked o) (stand l r rest count asked p)
 idles l r rest count asked o p puts =
     moves_by l l r r rest [] rest count count asked o p (Consumes-nil l) (omega arith) (sym (append-nil rest))
     (omega arith) puts
@@ -72,7 +72,7 @@ idles l r rest count asked o p puts =
 
 -- an end at which nothing is written behind the replies
 pub ends_so : (end : End) (l k : Option (List ℕ)) (r s : ℕ) (rest next : List ℕ) (count later asked : ℕ)
-    (o p : Outbound) → Moves [] (stand l r rest count asked o) (stand k s next later asked p)
+    (o p : Outbound) → StreamMoves [] (stand l r rest count asked o) (stand k s next later asked p)
     → EndsAt end (stand l r rest count asked o) (stand k s next later asked p) → WritesLast end p p
     → later ≤ bytes_limit → asked ≤ request_limit
     → Advances [] (Some end) (stand l r rest count asked o) (stand k s next later asked p)
@@ -85,7 +85,7 @@ ends_so end l k r s rest next count later asked o p moves ends last bytes few = 
 
 -- what is held is sent, and the stream ends so where that didn't fail
 pub finished : (end result : End) (b : Bool) (l : Option (List ℕ)) (r : ℕ) (rest : List ℕ) (count asked : ℕ)
-    (o p q : Outbound) → Puts [] o p → SendsAll p q → q.failed ≡ b → result ≡ cond b WriteFault end
+    (o p q : Outbound) → PutsReply [] o p → SendsAll p q → q.failed ≡ b → result ≡ cond b WriteFault end
     → (IsSent q → EndsAt end (stand l r rest count asked o) (stand l r rest count asked q)) → WritesLast end q q
     → count ≤ bytes_limit → asked ≤ request_limit
     → Advances [] (Some result) (stand l r rest count asked o) (stand l r rest count asked q)
@@ -110,9 +110,9 @@ broken start cause Memory l r rest count asked o q b counted bytes few at = absu
 broken start cause WriteFault l r rest count asked o q b counted bytes few at =
     ends_so WriteFault l l r r rest rest count count asked o q (idles l r rest count asked o q b.0) b.1 refl bytes
     (omega arith)
-broken start cause (Broken place told) l r rest count asked o q b counted bytes few at =
+broken start cause (Broken place content) l r rest count asked o q b counted bytes few at =
     let e = b.2 in
-    let reason : BreaksAt count rest told = subst (BreaksAt count rest) (sym b.1) at in
+    let reason : BreaksAt count rest content = subst (BreaksAt count rest) (sym b.1) at in
     record {
       at = stand l r rest count asked e.middle;
       moves = idles l r rest count asked o e.middle e.puts;
@@ -163,7 +163,7 @@ bad start fault (Broken place cause) l r rest count asked o q e at counted bytes
 -- the end of the input, where no whole message is in front
 pub input_ends : (end : End) (l k : Option (List ℕ)) (r s : ℕ) (stream : Stream) (count asked : ℕ) (o p : Outbound)
     → EndsInput stream end → Consumes l k [] → IsAtEnd k → r ≤ s → first_at message_limit stream.rest ≡ Ok None
-    → stream.start + length stream.rest ≡ count → count < bytes_limit → asked < request_limit → Puts [] o p
+    → stream.start + length stream.rest ≡ count → count < bytes_limit → asked < request_limit → PutsReply [] o p
     → IsSent p
     → Advances [] (Some end) (stand l r stream.rest count asked o) (stand k s stream.rest count asked p)
 input_ends Closed l k r s stream count asked o p e took ended reads none counted bytes few puts sent =
@@ -194,7 +194,7 @@ input_ends Memory l k r s stream count asked o p e took ended reads none counted
 -- bytes came, and the stream goes on
 pub came : (l k : Option (List ℕ)) (r s : ℕ) (rest bytes next : List ℕ) (count later asked : ℕ) (o p : Outbound)
     → Consumes l k bytes → r ≤ s → next ≡ rest ++ bytes → later ≡ count + length bytes → 0 < length bytes
-    → later ≤ bytes_limit → Puts [] o p → p.failed ≡ false
+    → later ≤ bytes_limit → PutsReply [] o p → p.failed ≡ false
     → Advances [] None (stand l r rest count asked o) (stand k s next later asked p)
 came l k r s rest bytes next count later asked o p took reads is counted some within puts works = record {
   at = stand k s next later asked p;
@@ -209,7 +209,7 @@ came l k r s rest bytes next count later asked o p took reads is counted some wi
 
 -- bytes came for which there was no memory
 pub lost : (l k : Option (List ℕ)) (r s : ℕ) (rest bytes : List ℕ) (count asked : ℕ) (o p : Outbound)
-    → Consumes l k bytes → r ≤ s → count + length bytes ≤ bytes_limit → asked ≤ request_limit → Puts [] o p
+    → Consumes l k bytes → r ≤ s → count + length bytes ≤ bytes_limit → asked ≤ request_limit → PutsReply [] o p
     → IsSent p → Advances [] (Some Memory) (stand l r rest count asked o) (stand k s rest count asked p)
 lost l k r s rest bytes count asked o p took reads within few puts sent = record {
   at = stand k s (rest ++ bytes) (count + length bytes) asked p;
@@ -228,7 +228,7 @@ lost l k r s rest bytes count asked o p took reads within few puts sent = record
 
 -- ---- a message is answered
 
-one_asked : (t : Exchange) (asked : Bool) → is_request t.message ≡ asked → requests (t ∷ []) ≡ cond asked 1 0
+one_asked : (t : MessageExchange) (asked : Bool) → is_request t.message ≡ asked → requests (t ∷ []) ≡ cond asked 1 0
 one_asked t asked e = rw e (omega arith)
 
 pub byte_of : (b : Bool) → bool_byte b ≡ cond b 1 0
@@ -242,15 +242,15 @@ one_at_most false = omega arith
 module _ {V : Type 0} (serves : V → List ℕ → List ℕ → V → Type 0) (stays : V → V → Type 0) where
   -- the message in front was answered, and dropped
   pub answered : (s u : V) (l : Option (List ℕ)) (r : ℕ) (stream next : Stream) (count asked later : ℕ) (request : Bool)
-      (o p : Outbound) (f : Answers serves stays s u stream.rest request o p) → stream.limit ≡ message_limit
-      → next ≡ dropped stream (first_at stream.limit stream.rest) → later ≡ asked + cond request 1 0
-      → Moves (f.exchange ∷ []) (stand l r stream.rest count asked o) (stand l r next.rest count later p)
+      (o p : Outbound) (f : AnswersMessage serves stays s u stream.rest request o p) → stream.limit ≡ message_limit
+      → next ≡ without_first stream (first_at stream.limit stream.rest) → later ≡ asked + cond request 1 0
+      → StreamMoves (f.exchange ∷ []) (stand l r stream.rest count asked o) (stand l r next.rest count later p)
   answered s u l r stream next count asked later request o p f limited is asked-is =
       let x = f.exchange in
       let size : first_at stream.limit stream.rest ≡ Ok (Some (length x.message)) =
       subst (λ (n : ℕ). first_at n stream.rest ≡ Ok (Some (length x.message))) (sym limited) f.front.size in
       let rest-is : next.rest ≡ drop (length x.message) stream.rest =
-      ap (λ (s : Stream). s.rest) is ∙ ap (λ r. (dropped stream r).rest) size in
+      ap (λ (s : Stream). s.rest) is ∙ ap (λ r. (without_first stream r).rest) size in
       let reply-is : x.reply ++ [] ≡ x.reply = append-nil x.reply in
       record {
         taken = [];
@@ -264,14 +264,14 @@ module _ {V : Type 0} (serves : V → List ℕ → List ℕ → V → Type 0) (s
 
   -- there is less to do then
   pub less_left : (s u : V) (stream next : Stream) (request : Bool) (o p : Outbound)
-      → (f : Answers serves stays s u stream.rest request o p) → stream.limit ≡ message_limit
-      → next ≡ dropped stream (first_at stream.limit stream.rest) → length next.rest < length stream.rest
+      → (f : AnswersMessage serves stays s u stream.rest request o p) → stream.limit ≡ message_limit
+      → next ≡ without_first stream (first_at stream.limit stream.rest) → length next.rest < length stream.rest
   less_left s u stream next request o p f limited is =
       let x = f.exchange in
       let size : first_at stream.limit stream.rest ≡ Ok (Some (length x.message)) =
       subst (λ (n : ℕ). first_at n stream.rest ≡ Ok (Some (length x.message))) (sym limited) f.front.size in
       let rest-is : next.rest ≡ drop (length x.message) stream.rest =
-      ap (λ (s : Stream). s.rest) is ∙ ap (λ r. (dropped stream r).rest) size in
+      ap (λ (s : Stream). s.rest) is ∙ ap (λ r. (without_first stream r).rest) size in
       let there = whole message_limit stream.rest (length x.message) f.front.size in
       omega (
         arith,

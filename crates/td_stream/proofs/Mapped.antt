@@ -1,7 +1,7 @@
 -- A stream over a servant, told of what is seen of it.
 use Rattle.std.proofs.Common.{ℕ, List, [], ◌∷◌, ap}
 use Rattle.td_stream.specs.declared.end.End.{End}
-use Rattle.td_stream.specs.Exchanges.{Exchange, Run}
+use Rattle.td_stream.specs.Exchanges.{MessageExchange, Run}
 use Rattle.td_stream.specs.Outside.{Outside}
 use Rattle.td_stream.specs.Streams.{Streams}
 
@@ -10,7 +10,7 @@ module _ {V W : Type 0} (see : V → W) (serves : V → List ℕ → List ℕ �
     (each : (s : V) (message reply : List ℕ) (t : V) → serves s message reply t
     → serves_seen (see s) message reply (see t))
     (none : (s t : V) → stays s t → stays_seen (see s) (see t)) where
-  run_seen : (s u : V) (xs : List Exchange) → Run serves s xs u → Run serves_seen (see s) xs (see u)
+  run_seen : (s u : V) (xs : List MessageExchange) → Run serves s xs u → Run serves_seen (see s) xs (see u)
   run_seen s u [] r = ap see r
   run_seen s u (x ∷ xs) r = (
     see r.0,

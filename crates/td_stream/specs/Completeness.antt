@@ -6,7 +6,7 @@ use Rattle.td_out.specs.Causes.{Rose}
 use Rattle.td_stream.specs.Messages.{IsForServer, is_closing, is_request}
 use Rattle.td_stream.specs.declared.end.End.{End}
 use Rattle.td_stream.specs.declared.end.End.TheVariants.{Closed, Memory}
-use Rattle.td_stream.specs.Exchanges.{Exchange, Run, messages_of, output}
+use Rattle.td_stream.specs.Exchanges.{MessageExchange, Run, messages_of, output}
 use Rattle.td_stream.specs.Outside.{Outside}
 use Rattle.td_stream.specs.Streams.{bytes_limit, request_limit}
 
@@ -25,18 +25,18 @@ pub record NoneFailed (before after : Outside) : Type 0 where
 module _ {V : Type 0} (serves : V → List ℕ → List ℕ → V → Type 0) (stays : V → V → Type 0) where
   -- The messages before the first that closes the stream, or all of them, were answered in order, each where the one
   -- before has left the servant, and their replies were given. Nothing was done behind them.
-  pub record ServesAll (s u : V) (before after : Outside) (messages : List (List ℕ)) : Type 0 where
-    pub exchanges : List Exchange
+  pub record AnswersAll (s u : V) (before after : Outside) (messages : List (List ℕ)) : Type 0 where
+    pub exchanges : List MessageExchange
     pub last : V
     pub run : Run serves s exchanges last
     pub stayed : stays last u
     pub all : messages_of exchanges ≡ before_first is_closing messages
     pub gave : Appends before.written after.written (output exchanges)
 
-  -- the stream was closed when these messages had been answered, or it ended for want of memory
+  -- the stream was closed when these messages had been answered, or it ended when out of memory
   abbrev pub IsComplete : V → V → End → Outside → Outside → List (List ℕ) → Type 0
   IsComplete s u end before after messages =
-      ((end ≡ Closed) × ServesAll s u before after messages) ⊎ (end ≡ Memory)
+      ((end ≡ Closed) × AnswersAll s u before after messages) ⊎ (end ≡ Memory)
 
   -- so it is wherever the source is such messages and none of the outside failed
   abbrev pub Completes : V → V → End → Outside → Outside → Type 0

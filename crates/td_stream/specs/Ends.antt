@@ -7,8 +7,8 @@ use Rattle.td_stream.specs.declared.end.End.{End}
 use Rattle.td_stream.specs.declared.end.End.TheVariants.{Closed, Broken, Truncated, ReadFault, WriteFault, Long}
 use Rattle.td_stream.specs.declared.end.End.TheVariants.{Memory}
 use Rattle.td_stream.specs.Messages.{message_error}
-use Rattle.td_stream.specs.Outbound.{Outbound, Puts, IsSent}
-use Rattle.td_stream.specs.Pieces.{Writes}
+use Rattle.td_stream.specs.Outbound.{Outbound, PutsReply, IsSent}
+use Rattle.td_stream.specs.Pieces.{WritesFront}
 use Rattle.td_stream.specs.Steps.{cause_of}
 
 -- at the end of the input a stream without a whole message is at the border of a message, or inside one
@@ -24,17 +24,18 @@ EndsInput s Memory = ⊥
 -- what was held was sent, and a MessageError written behind it
 pub record SendsError (o p : Outbound) : Type 0 where
   pub middle : Outbound
-  pub puts : Puts [] o middle
+  pub puts : PutsReply [] o middle
   pub sent : IsSent middle
-  pub error : Writes message_error middle.written p.written middle.writes p.writes
+  pub error : WritesFront message_error middle.written p.written middle.writes p.writes
 
 -- what was held could not be sent whole
 abbrev pub FailsToSend : (o p : Outbound) → Type 0
-FailsToSend o p = Puts [] o p × (p.failed ≡ true)
+FailsToSend o p = PutsReply [] o p × (p.failed ≡ true)
 
 -- a stream is broken off at this place for this cause, or what was held can't be sent
 abbrev pub BreaksOff : (start : ℕ) → Cause → End → (o p : Outbound) → Type 0
-BreaksOff start cause (Broken place told) o p = (place ≡ start) × (told ≡ cause) × SendsError o p
+BreaksOff start cause (Broken place content) o p = (place ≡ start) × (content ≡ cause)
+    × SendsError o p
 BreaksOff start cause WriteFault o p = FailsToSend o p
 BreaksOff start cause Closed o p = ⊥
 BreaksOff start cause (Truncated place) o p = ⊥
@@ -44,7 +45,7 @@ BreaksOff start cause Memory o p = ⊥
 
 -- at a bad header a stream ends as Long where all was taken that is taken, and otherwise it is broken off
 abbrev pub EndsAtBad : (start taken : ℕ) → FrameFault → End → (o p : Outbound) → Type 0
-EndsAtBad start taken fault Long o p = (taken ≡ 2 ^ 40) × Puts [] o p × IsSent p
+EndsAtBad start taken fault Long o p = (taken ≡ 2 ^ 40) × PutsReply [] o p × IsSent p
 EndsAtBad start taken fault (Broken place cause) o p =
     (taken ≢ 2 ^ 40) × BreaksOff start (cause_of fault) (Broken place cause) o p
 EndsAtBad start taken fault WriteFault o p = FailsToSend o p

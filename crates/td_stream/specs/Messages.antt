@@ -9,7 +9,7 @@ use Rattle.td_giop.specs.declared.limit.TheConstants.{SERVER_LIMIT}
 use Rattle.td_giop.specs.declared.message_type.TheConstants.{REQUEST, REPLY, CANCEL_REQUEST, LOCATE_REQUEST}
 use Rattle.td_giop.specs.declared.message_type.TheConstants.{LOCATE_REPLY, CLOSE_CONNECTION, MESSAGE_ERROR}
 use Rattle.td_giop.specs.Cut.{IsMessage}
-use Rattle.td_giop.specs.Header.{order_told}
+use Rattle.td_giop.specs.Header.{order_of_flag}
 use Rattle.td_giop.specs.Heads.{behind_header, request_at, locate_at, cancel_at}
 
 -- how many bytes may follow a header: 16 MiB
@@ -26,7 +26,7 @@ abbrev pub is_request : List ℕ → Bool
 is_request message = nat_eq (kind_of message) REQUEST
 
 abbrev pub order_of : List ℕ → Order
-order_of message = order_told (slice_index message ORDER_PLACE)
+order_of message = order_of_flag (slice_index message ORDER_PLACE)
 
 -- the minor version that a message's header tells
 abbrev pub minor_of : List ℕ → ℕ

@@ -19,7 +19,7 @@ outbound written writes held failed = record {
 }
 
 -- these bytes came behind what was held, and a front of both was written
-pub record Sends (bytes : List ℕ) (a b : Outbound) : Type 0 where
+pub record SendsBytes (bytes : List ℕ) (a b : Outbound) : Type 0 where
   pub sent : List ℕ
   pub gave : Appends a.written b.written sent
   pub rest : sent ++ b.held ≡ a.held ++ bytes
@@ -32,20 +32,20 @@ pub record Misses (bytes : List ℕ) (a b : Outbound) : Type 0 where
   pub rose : Rose a.writes b.writes
 
 -- once a send has failed, no other is made
-abbrev pub Moves : (before after : Bool) → List ℕ → Outbound → Outbound → Type 0
-Moves false false bytes a b = Sends bytes a b
-Moves false true bytes a b = Misses bytes a b
-Moves true true bytes a b = Appends a.written b.written [] × (b.writes ≡ a.writes)
-Moves true false bytes a b = ⊥
+abbrev pub SendsOrMisses : (before after : Bool) → List ℕ → Outbound → Outbound → Type 0
+SendsOrMisses false false bytes a b = SendsBytes bytes a b
+SendsOrMisses false true bytes a b = Misses bytes a b
+SendsOrMisses true true bytes a b = Appends a.written b.written [] × (b.writes ≡ a.writes)
+SendsOrMisses true false bytes a b = ⊥
 
 -- these bytes were put, and what is held was sent or not
-pub record Puts (bytes : List ℕ) (a b : Outbound) : Type 0 where
-  pub moves : Moves a.failed b.failed bytes a b
+pub record PutsReply (bytes : List ℕ) (a b : Outbound) : Type 0 where
+  pub moves : SendsOrMisses a.failed b.failed bytes a b
   pub later : a.writes ≤ b.writes
 
 -- what is held was sent, as far as it could be
 pub record SendsAll (a b : Outbound) : Type 0 where
-  pub puts : Puts [] a b
+  pub puts : PutsReply [] a b
   pub empty : b.failed ≡ false → b.held ≡ []
 
 -- nothing is held, and no send has failed

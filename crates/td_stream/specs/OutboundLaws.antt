@@ -6,21 +6,21 @@ use Rattle.std.proofs.Math.Seq.{take-append-add}
 use Rattle.std.proofs.lemmas.List.{take-append-le}
 use Rattle.std.specs.Io.KnownBytes.{Appends}
 use Rattle.td_out.specs.Causes.{Rose}
-use Rattle.td_stream.specs.Outbound.{Outbound, Sends, Misses, Moves, Puts}
+use Rattle.td_stream.specs.Outbound.{Outbound, SendsBytes, Misses, SendsOrMisses, PutsReply}
 
-sends_none : (a : Outbound) → Sends [] a a
+sends_none : (a : Outbound) → SendsBytes [] a a
 sends_none a = record { sent = []; gave = Appends-nil a.written; rest = sym (append-nil a.held) }
 
-moves_none : (a : Outbound) (b : Bool) → Moves b b [] a a
+moves_none : (a : Outbound) (b : Bool) → SendsOrMisses b b [] a a
 moves_none a true = (Appends-nil a.written, refl)
 moves_none a false = sends_none a
 
 -- nothing was put
-pub puts-none : (a : Outbound) → Puts [] a a
+pub puts-none : (a : Outbound) → PutsReply [] a a
 puts-none a = record { moves = moves_none a a.failed; later = omega arith }
 
-sends_then : (a b c : Outbound) (xs ys : List ℕ) → Sends xs a b → Sends ys b c
-    → Sends (xs ++ ys) a c
+sends_then : (a b c : Outbound) (xs ys : List ℕ) → SendsBytes xs a b → SendsBytes ys b c
+    → SendsBytes (xs ++ ys) a c
 sends_then a b c xs ys p q = record {
   sent = p.sent ++ q.sent;
   gave = Appends-trans a.written b.written c.written p.sent q.sent p.gave q.gave;
@@ -29,7 +29,7 @@ sends_then a b c xs ys p q = record {
       ∙ sym (append_assoc p.sent b.held ys) ∙ ap (λ l. l ++ ys) p.rest ∙ append_assoc a.held xs ys;
 }
 
-sends_misses : (a b c : Outbound) (xs ys : List ℕ) → Sends xs a b → Misses ys b c
+sends_misses : (a b c : Outbound) (xs ys : List ℕ) → SendsBytes xs a b → Misses ys b c
     → a.writes ≤ b.writes → Misses (xs ++ ys) a c
 sends_misses a b c xs ys p q later =
     let whole : p.sent ++ (b.held ++ ys) ≡ a.held ++ (xs ++ ys) =
@@ -69,8 +69,8 @@ misses_stays a b c xs ys p gave same =
       rose = rw same p.rose;
     }
 
-moves_then : (a b c : Outbound) (p q r : Bool) (xs ys : List ℕ) → Moves p q xs a b
-    → Moves q r ys b c → a.writes ≤ b.writes → Moves p r (xs ++ ys) a c
+moves_then : (a b c : Outbound) (p q r : Bool) (xs ys : List ℕ) → SendsOrMisses p q xs a b
+    → SendsOrMisses q r ys b c → a.writes ≤ b.writes → SendsOrMisses p r (xs ++ ys) a c
 moves_then a b c false false false xs ys m n later = sends_then a b c xs ys m n
 moves_then a b c false false true xs ys m n later = sends_misses a b c xs ys m n later
 moves_then a b c false true true xs ys m n later = misses_stays a b c xs ys m n.0 n.1
@@ -81,8 +81,8 @@ moves_then a b c true true false xs ys m n later = absurd n
 moves_then a b c true false r xs ys m n later = absurd m
 
 -- one after the other
-pub puts-then : (xs ys : List ℕ) (a b c : Outbound) → Puts xs a b → Puts ys b c
-    → Puts (xs ++ ys) a c
+pub puts-then : (xs ys : List ℕ) (a b c : Outbound) → PutsReply xs a b → PutsReply ys b c
+    → PutsReply (xs ++ ys) a c
 puts-then xs ys a b c p q = record {
   moves = moves_then a b c a.failed b.failed c.failed xs ys p.moves q.moves p.later;
   later = let l = p.later in let m = q.later in omega arith;

@@ -7,7 +7,7 @@ use Rattle.td_stream.specs.declared.piece.Piece.{Piece}
 use Rattle.td_stream.specs.declared.piece.Piece.TheVariants.{Came, Ended, Failed, Memory}
 
 -- these bytes came, at most so many
-pub record Comes (most : ℕ) (left0 left1 : Option (List ℕ)) (bytes : List ℕ) : Type 0 where
+pub record BytesCome (most : ℕ) (left0 left1 : Option (List ℕ)) (bytes : List ℕ) : Type 0 where
   pub consumed : Consumes left0 left1 bytes
   pub within : length bytes ≤ most
 
@@ -15,17 +15,17 @@ pub record Comes (most : ℕ) (left0 left1 : Option (List ℕ)) (bytes : List �
 abbrev pub Brings : Piece → (most : ℕ) → (left0 left1 : Option (List ℕ)) → (reads0 reads1 : ℕ)
     → Stream → Stream → Type 0
 Brings (Came count) most left0 left1 reads0 reads1 old new =
-    (bytes : List ℕ) × Comes most left0 left1 bytes × (length bytes ≡ count) × (0 < count)
+    (bytes : List ℕ) × BytesCome most left0 left1 bytes × (length bytes ≡ count) × (0 < count)
     × (new ≡ record old { rest = old.rest ++ bytes })
 Brings Ended most left0 left1 reads0 reads1 old new = Consumes left0 left1 [] × IsAtEnd left1
     × (new ≡ old)
 Brings Failed most left0 left1 reads0 reads1 old new = Consumes left0 left1 [] × Rose reads0 reads1
     × (new ≡ old)
 Brings Memory most left0 left1 reads0 reads1 old new = (bytes : List ℕ)
-    × Comes most left0 left1 bytes × (new ≡ old)
+    × BytesCome most left0 left1 bytes × (new ≡ old)
 
 -- A piece was written, or a front of it with a count of faults that rose.
-pub record Writes (piece : List ℕ) (written0 written1 : Option (List ℕ))
+pub record WritesFront (piece : List ℕ) (written0 written1 : Option (List ℕ))
     (writes0 writes1 : ℕ) : Type 0 where
   pub sent : ℕ
   pub gave : Appends written0 written1 (take sent piece)

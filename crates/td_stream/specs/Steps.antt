@@ -14,10 +14,10 @@ use Rattle.td_stream.specs.declared.end.Cause.TheVariants.{BadMagic, BadVersion,
 use Rattle.td_stream.specs.declared.end.Cause.TheVariants.{Header, Fragmented}
 
 -- it is answered; it closes the stream; or the stream is broken off at it
-pub data Step : Type 0 where
-  answers : Step
-  closes : Step
-  breaks : Cause → Step
+pub data MessageStep : Type 0 where
+  answers : MessageStep
+  closes : MessageStep
+  breaks : Cause → MessageStep
 
 -- a head that isn't in the grammar, by the place of the fault
 abbrev pub broken_head : CdrFault → Cause
@@ -27,21 +27,21 @@ broken_head (cdr.BadString place) = Header place
 broken_head (cdr.TooLong place) = Header place
 broken_head cdr.Memory = Header 0
 
-abbrev pub request_step : Result (Request × At) CdrFault → Step
+abbrev pub request_step : Result (Request × At) CdrFault → MessageStep
 request_step (Ok head) = answers
 request_step (Err fault) = breaks (broken_head fault)
 
-abbrev pub locate_step : Result (ℕ × List ℕ) CdrFault → Step
+abbrev pub locate_step : Result (ℕ × List ℕ) CdrFault → MessageStep
 locate_step (Ok head) = answers
 locate_step (Err fault) = breaks (broken_head fault)
 
-abbrev pub cancel_step : Result ℕ CdrFault → Step
+abbrev pub cancel_step : Result ℕ CdrFault → MessageStep
 cancel_step (Ok id) = answers
 cancel_step (Err fault) = breaks (broken_head fault)
 
 -- Request, LocateRequest and CancelRequest are answered; CloseConnection and MessageError close the stream; Reply
 -- and LocateReply are for clients
-unfoldable pub step_of : List ℕ → Step
+unfoldable pub step_of : List ℕ → MessageStep
 step_of message =
     if nat_eq (kind_of message) REQUEST then request_step
     (request_at (minor_of message) (behind message))

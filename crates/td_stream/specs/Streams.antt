@@ -4,15 +4,15 @@ use Rattle.std.specs.Io.KnownBytes.{Appends, Consumes, IsAtEnd}
 use Rattle.td_out.specs.Causes.{Rose}
 use Rattle.td_giop.specs.declared.fault.FrameFault.{FrameFault}
 use Rattle.td_giop.specs.Stream.{first_at}
-use Rattle.td_giop.specs.Cut.{Front, Fronts}
+use Rattle.td_giop.specs.Cut.{IsFirstMessage, Fronts}
 use Rattle.td_stream.specs.Messages.{message_error, message_limit}
 use Rattle.td_stream.specs.declared.end.Cause.{Cause}
 use Rattle.td_stream.specs.declared.end.End.{End}
 use Rattle.td_stream.specs.declared.end.End.TheVariants.{Closed, Broken, Truncated, ReadFault, WriteFault, Long}
 use Rattle.td_stream.specs.declared.end.End.TheVariants.{Memory}
-use Rattle.td_stream.specs.Exchanges.{Exchange, Run, messages_of, output, requests}
+use Rattle.td_stream.specs.Exchanges.{MessageExchange, Run, messages_of, output, requests}
 use Rattle.td_stream.specs.Outside.{Outside}
-use Rattle.td_stream.specs.Steps.{Step, closes, breaks, step_of, cause_of}
+use Rattle.td_stream.specs.Steps.{MessageStep, closes, breaks, step_of, cause_of}
 
 -- how many bytes of a stream are taken, and how many of its Requests served, at most
 abbrev pub bytes_limit : ℕ
@@ -23,7 +23,7 @@ request_limit = 1000000
 
 -- Behind bytes that were taken before, more were taken. In front of them all stand the messages that were
 -- served, one after the other, and the rest behind them. These bytes were given.
-pub record Runs (exchanges : List Exchange) (before after : Outside)
+pub record ServesBytes (exchanges : List MessageExchange) (before after : Outside)
     (held taken rest given : List ℕ) : Type 0 where
   pub took : Consumes before.left after.left taken
   pub cut : Fronts message_limit (held ++ taken) (messages_of exchanges) rest
@@ -32,9 +32,9 @@ pub record Runs (exchanges : List Exchange) (before after : Outside)
   pub writes : before.writes ≤ after.writes
 
 -- the message in front has this step
-pub record Meets (rest : List ℕ) (step : Step) : Type 0 where
+pub record FirstHasStep (rest : List ℕ) (step : MessageStep) : Type 0 where
   pub message : List ℕ
-  pub front : Front message_limit rest message
+  pub front : IsFirstMessage message_limit rest message
   pub has_step : step_of message ≡ step
 
 -- no whole message stands in front
@@ -44,14 +44,14 @@ IsServed rest = (n : ℕ) → first_at message_limit rest ≡ Ok (Some n) → �
 -- The input ended where no message had begun, or the message in front closes the stream.
 abbrev pub ClosesAt : Outside → ℕ → List ℕ → Type 0
 ClosesAt after count rest = ((count < bytes_limit) × (rest ≡ []) × IsAtEnd after.left)
-    ⊎ Meets rest closes
+    ⊎ FirstHasStep rest closes
 
 -- The header in front is bad, or the message in front can't be served.
 abbrev pub BreaksAt : ℕ → List ℕ → Cause → Type 0
 BreaksAt count rest cause =
     ((fault : FrameFault) × (count < bytes_limit) × (first_at message_limit rest ≡ Err fault)
     × (cause ≡ cause_of fault))
-    ⊎ Meets rest (breaks cause)
+    ⊎ FirstHasStep rest (breaks cause)
 
 -- The input ended inside a message.
 pub record EndsInside (after : Outside) (count : ℕ) (rest : List ℕ) : Type 0 where
@@ -88,25 +88,27 @@ pub record SendsError (before after : Outside) (output given : List ℕ) : Type 
   pub whole : (sent ≡ length message_error) ⊎ Rose before.writes after.writes
 
 -- a front of the replies that isn't all
-pub record IsFront (replies given : List ℕ) : Type 0 where
+pub record IsFrontOfReplies (replies given : List ℕ) : Type 0 where
   pub sent : ℕ
   pub short : sent < length replies
   pub is : given ≡ take sent replies
 
 -- what was given of the answers by this end
-abbrev pub Gives : End → Outside → Outside → List Exchange → (given : List ℕ) → Type 0
-Gives (Broken place cause) before after exchanges given = SendsError before after (output exchanges)
+abbrev pub GivesReplies : End → Outside → Outside → List MessageExchange → (given : List ℕ) → Type 0
+GivesReplies (Broken place cause) before after exchanges given = SendsError before after
+    (output exchanges)
     given
-Gives WriteFault before after exchanges given = IsFront (output exchanges) given
-Gives Closed before after exchanges given = given ≡ output exchanges
-Gives (Truncated place) before after exchanges given = given ≡ output exchanges
-Gives ReadFault before after exchanges given = given ≡ output exchanges
-Gives Long before after exchanges given = given ≡ output exchanges
-Gives Memory before after exchanges given = given ≡ output exchanges
+GivesReplies WriteFault before after exchanges given = IsFrontOfReplies (output exchanges) given
+GivesReplies Closed before after exchanges given = given ≡ output exchanges
+GivesReplies (Truncated place) before after exchanges given = given ≡ output exchanges
+GivesReplies ReadFault before after exchanges given = given ≡ output exchanges
+GivesReplies Long before after exchanges given = given ≡ output exchanges
+GivesReplies Memory before after exchanges given = given ≡ output exchanges
 
 -- A stream goes on to its end from where these bytes are held, so many were taken and so many Requests served: these
 -- messages are answered, each with its reply, in order.
-pub record Finishes (exchanges : List Exchange) (end : End) (before after : Outside) (held : List ℕ)
+pub record StreamFinishes (exchanges : List MessageExchange) (end : End) (before after : Outside)
+    (held : List ℕ)
     (count requests_before : ℕ) : Type 0 where
   -- the bytes that are taken
   pub taken : List ℕ
@@ -114,19 +116,19 @@ pub record Finishes (exchanges : List Exchange) (end : End) (before after : Outs
   pub rest : List ℕ
   -- the bytes that are written
   pub given : List ℕ
-  pub runs : Runs exchanges before after held taken rest given
+  pub runs : ServesBytes exchanges before after held taken rest given
   pub bytes : count + length taken ≤ bytes_limit
   pub few : requests_before + requests exchanges ≤ request_limit
   pub reason : HasReason end before after (count + length taken)
       (requests_before + requests exchanges) rest
-  pub gives : Gives end before after exchanges given
+  pub gives : GivesReplies end before after exchanges given
 
 module _ {V : Type 0} (serves : V → List ℕ → List ℕ → V → Type 0) (stays : V → V → Type 0) where
   -- A stream, whole: these messages were answered, each where the one before has left the servant, and nothing was done
   -- behind them; they are cut out of the bytes that were taken, and their replies were given.
   pub record Streams (s u : V) (end : End) (before after : Outside) : Type 0 where
-    pub exchanges : List Exchange
+    pub exchanges : List MessageExchange
     pub last : V
     pub run : Run serves s exchanges last
     pub stayed : stays last u
-    pub stream : Finishes exchanges end before after [] 0 0
+    pub stream : StreamFinishes exchanges end before after [] 0 0

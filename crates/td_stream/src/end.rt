@@ -34,6 +34,6 @@ pub enum End {
     WriteFault,
     /// 2^40 bytes were taken, or 1,000,000 Requests served.
     Long,
-    /// Want of memory for the bytes on their way, or a servant that found none to answer a message.
+    /// Out of memory for the bytes on their way, or a servant that found none to answer a message.
     Memory,
 }

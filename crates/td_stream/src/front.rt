@@ -3,10 +3,10 @@
 ghost use Rattle.std.specs.Prelude.{◌≡◌, ◌<◌, ◌^◌};
 ghost use Rattle.td_stream.specs.Messages.{message_limit};
 ghost use Rattle.td_stream.specs.Outbound.{outbound};
-ghost use Rattle.td_stream.specs.Fronts.{Finds};
+ghost use Rattle.td_stream.specs.Fronts.{FindsFront};
 
 use crate::end::Cause;
-use crate::head::{Asked, judge};
+use crate::head::{RequestedReply, judge};
 use crate::outbox::Outbox;
 use crate::servant::Servant;
 use std::alloc::Global;
@@ -42,7 +42,7 @@ pub(crate) fn serve_front<'k, V: Servant, K: Sink>(
     requires room { V.budget servant.old < 2 ^ 63 }
     ensures same { V.same servant.old servant.new }
     ensures same_sink { outbox.new.sink.ghost_name ≡ outbox.old.sink.ghost_name }
-    ensures finds { Finds V.serves V.stays result framer.old.rest servant.old servant.new
+    ensures finds { FindsFront V.serves V.stays result framer.old.rest servant.old servant.new
         (outbound (K.written outbox.old.sink.now)
         (K.faults outbox.old.sink.now) outbox.old.held.items outbox.old.failed)
         (outbound (K.written outbox.new.sink.now)
@@ -53,9 +53,9 @@ pub(crate) fn serve_front<'k, V: Servant, K: Sink>(
         Err(fault) => Front::Bad(fault),
         Ok(None) => Front::Nothing,
         Ok(Some(message)) => match judge(&message) {
-            Asked::Close => Front::Closes,
-            Asked::Break(cause) => Front::Breaks(cause),
-            Asked::Answer(head) => match servant.answer(alloc, &message, &head, outbox) {
+            RequestedReply::Close => Front::Closes,
+            RequestedReply::Break(cause) => Front::Breaks(cause),
+            RequestedReply::Answer(head) => match servant.answer(alloc, &message, &head, outbox) {
                 Err(_) => Front::Full,
                 Ok(()) => {
                     outbox.put(servant.reply());

@@ -1,7 +1,7 @@
 //! What a message asks of a server by its head alone.
 
 ghost use Rattle.std.specs.Prelude.{◌≡◌};
-ghost use Rattle.td_stream.specs.Heads.{Asks, IsCancelRequest, IsLocateRequest, IsMessage, IsRequest};
+ghost use Rattle.td_stream.specs.Heads.{ClassifiesMessage, IsCancelRequest, IsLocateRequest, IsMessage, IsRequest};
 ghost use Rattle.td_stream.specs.Steps.{broken_head};
 
 use crate::end::Cause;
@@ -22,7 +22,7 @@ pub enum Head<'m> {
 
 /// What a message asks.
 #[derive(Drop)]
-pub(crate) enum Asked<'m> {
+pub(crate) enum RequestedReply<'m> {
     /// To be answered. The answer may have no bytes.
     Answer(Head<'m>),
     /// That the stream be closed.
@@ -33,55 +33,55 @@ pub(crate) enum Asked<'m> {
 
 /// What a message asks, by its type and its head.
 #[tactic(auto, unfolding(crate::specs::Steps::step_of))]
-pub(crate) fn judge<'m>(message: &Raw<'m>) -> Asked<'m>
+pub(crate) fn judge<'m>(message: &Raw<'m>) -> RequestedReply<'m>
     requires whole { IsMessage message.now }
-    ensures { Asks message.now result }
+    ensures { ClassifiesMessage message.now result }
 {
     match message.kind {
         REQUEST => judge_request(message),
         CANCEL_REQUEST => judge_cancel(message),
         LOCATE_REQUEST => judge_locate(message),
-        REPLY | LOCATE_REPLY => Asked::Break(Cause::NotForServer),
-        _ => Asked::Close,
+        REPLY | LOCATE_REPLY => RequestedReply::Break(Cause::NotForServer),
+        _ => RequestedReply::Close,
     }
 }
 
 /// What a Request asks.
 #[tactic(auto, unfolding(crate::specs::Steps::step_of))]
-fn judge_request<'m>(message: &Raw<'m>) -> Asked<'m>
+fn judge_request<'m>(message: &Raw<'m>) -> RequestedReply<'m>
     requires whole { IsMessage message.now }
     requires kind { IsRequest message.now }
-    ensures { Asks message.now result }
+    ensures { ClassifiesMessage message.now result }
 {
     match read_request(message) {
-        Err(fault) => Asked::Break(broken_head(fault)),
-        Ok(head) => Asked::Answer(Head::Request(head)),
+        Err(fault) => RequestedReply::Break(broken_head(fault)),
+        Ok(head) => RequestedReply::Answer(Head::Request(head)),
     }
 }
 
 /// What a LocateRequest asks.
 #[tactic(auto, unfolding(crate::specs::Steps::step_of))]
-fn judge_locate<'m>(message: &Raw<'m>) -> Asked<'m>
+fn judge_locate<'m>(message: &Raw<'m>) -> RequestedReply<'m>
     requires whole { IsMessage message.now }
     requires kind { IsLocateRequest message.now }
-    ensures { Asks message.now result }
+    ensures { ClassifiesMessage message.now result }
 {
     match read_locate(message) {
-        Err(fault) => Asked::Break(broken_head(fault)),
-        Ok((id, key)) => Asked::Answer(Head::Locate(id, key)),
+        Err(fault) => RequestedReply::Break(broken_head(fault)),
+        Ok((id, key)) => RequestedReply::Answer(Head::Locate(id, key)),
     }
 }
 
 /// What a CancelRequest asks.
 #[tactic(auto, unfolding(crate::specs::Steps::step_of))]
-fn judge_cancel<'m>(message: &Raw<'m>) -> Asked<'m>
+fn judge_cancel<'m>(message: &Raw<'m>) -> RequestedReply<'m>
     requires whole { IsMessage message.now }
     requires kind { IsCancelRequest message.now }
-    ensures { Asks message.now result }
+    ensures { ClassifiesMessage message.now result }
 {
     match read_cancel(message) {
-        Err(fault) => Asked::Break(broken_head(fault)),
-        Ok(id) => Asked::Answer(Head::Cancel(id)),
+        Err(fault) => RequestedReply::Break(broken_head(fault)),
+        Ok(id) => RequestedReply::Answer(Head::Cancel(id)),
     }
 }
 

@@ -9,7 +9,7 @@ use crate::servant::Servant;
 
 /// Where the source is whole messages that a server can be sent, within a stream's limits, and neither it nor
 /// the sink fails, all before the first that closes the stream are answered, in order, and it is closed, or it
-/// ends for want of memory.
+/// ends when out of memory.
 pub fn all_messages_are_answered<V: Servant>()
     ensures { (s u : V) (end : End) (before after : Outside)
         → Streams V.serves V.stays s u end before after

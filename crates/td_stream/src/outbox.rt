@@ -1,7 +1,7 @@
 //! Replies that are held, and written with one write.
 
 ghost use Rattle.std.specs.Prelude.{◌≡◌, [], false};
-ghost use Rattle.td_stream.specs.Outbound.{outbound, Puts, SendsAll};
+ghost use Rattle.td_stream.specs.Outbound.{outbound, PutsReply, SendsAll};
 ghost use Rattle.td_stream.specs.OutboundLaws.{puts-none, puts-then};
 
 use crate::held::SendsHeld;
@@ -23,8 +23,8 @@ pub(crate) struct Outbox<'k, K> {
 
 impl<'k, K: Sink> Outbox<'k, K> {
     ghost use Rattle.std.specs.Prelude.{◌≡◌, ◌++◌, [], false, if◌then◌else◌};
-    ghost use Rattle.td_stream.specs.Pieces.{Writes};
-    ghost use Rattle.td_stream.specs.Outbound.{outbound, Puts, SendsAll};
+    ghost use Rattle.td_stream.specs.Pieces.{WritesFront};
+    ghost use Rattle.td_stream.specs.Outbound.{outbound, PutsReply, SendsAll};
 
     /// Nothing is held.
     pub(crate) fn new(alloc: Global, sink: &'k mut K) -> Outbox<'k, K>
@@ -44,7 +44,7 @@ impl<'k, K: Sink> Outbox<'k, K> {
     /// are sent, and it is written behind them.
     pub(crate) fn put(&mut self, reply: &[u8])
         ensures same { self.new.sink.ghost_name ≡ self.old.sink.ghost_name }
-        ensures puts { Puts reply.now
+        ensures puts { PutsReply reply.now
             (outbound (K.written self.old.sink.now) (K.faults self.old.sink.now) self.old.held.items
             self.old.failed)
             (outbound (K.written self.new.sink.now) (K.faults self.new.sink.now) self.new.held.items
@@ -74,7 +74,7 @@ impl<'k, K: Sink> Outbox<'k, K> {
     fn write_on(&mut self, reply: &[u8])
         requires empty { self.old.failed ≡ false → self.old.held.items ≡ [] }
         ensures same { self.new.sink.ghost_name ≡ self.old.sink.ghost_name }
-        ensures puts { Puts reply.now
+        ensures puts { PutsReply reply.now
             (outbound (K.written self.old.sink.now) (K.faults self.old.sink.now) self.old.held.items
             self.old.failed)
             (outbound (K.written self.new.sink.now) (K.faults self.new.sink.now) self.new.held.items
@@ -89,7 +89,7 @@ impl<'k, K: Sink> Outbox<'k, K> {
     /// Writes an error where nothing is held, as far as the sink takes it.
     pub(crate) fn write_error(&mut self, error: &[u8])
         ensures same { self.new.sink.ghost_name ≡ self.old.sink.ghost_name }
-        ensures written { Writes error.now (K.written self.old.sink.now)
+        ensures written { WritesFront error.now (K.written self.old.sink.now)
             (K.written self.new.sink.now) (K.faults self.old.sink.now)
             (K.faults self.new.sink.now) }
     {
@@ -121,7 +121,7 @@ impl<'k, K: Sink> Outbox<'k, K> {
 }
 
 impl<'k, K: Sink> SendsHeld for Outbox<'k, K> {
-    ghost reaches = { λ a b. (a.sink.ghost_name ≡ b.sink.ghost_name) × Puts []
+    ghost reaches = { λ a b. (a.sink.ghost_name ≡ b.sink.ghost_name) × PutsReply []
         (outbound (K.written a.sink.now) (K.faults a.sink.now) a.held.items
         a.failed)
         (outbound (K.written b.sink.now) (K.faults b.sink.now) b.held.items

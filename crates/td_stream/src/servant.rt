@@ -23,7 +23,7 @@ pub trait Servant {
     ghost same: { Self → Self → Type 0 };
 
     /// The reply to the last message.
-    ghost told: { Self → List ℕ };
+    ghost content: { Self → List ℕ };
 
     /// How much of its numbers it has used up: at most one by each Request, and none by another message.
     ghost budget: { Self → ℕ };
@@ -32,7 +32,7 @@ pub trait Servant {
     ///
     /// # Errors
     ///
-    /// `Memory` for want of memory alone; nothing was done then.
+    /// `Memory` only when out of memory; nothing was done then.
     fn answer<G: SendsHeld>(
         &mut self,
         alloc: Global,
@@ -44,13 +44,14 @@ pub trait Servant {
         requires head { HasHead message.now head.now }
         requires room { budget self.old < 2 ^ 63 }
         ensures same { same self.old self.new }
-        ensures ok { OnOk result (serves self.old message.now.bytes.now (told self.new) self.new) }
+        ensures ok { OnOk result (serves self.old message.now.bytes.now
+            (content self.new) self.new) }
         ensures err { OnErr result (stays self.old self.new) }
         ensures held { G.reaches held.old held.new };
 
     /// The reply to the last message.
     fn reply(&self) -> &[u8]
-        ensures { result.now ≡ told self.now };
+        ensures { result.now ≡ content self.now };
 
     ghost spends: { (s : Self) (message reply : List ℕ) (t : Self) → serves s message reply t
         → budget t ≤ budget s + (if is_request message then 1 else 0) };

@@ -220,7 +220,7 @@ fn cause_of(fault: FrameFault) -> Cause
 /// anybody, and where 64 KiB are held. Where such a write fails, the message that is being answered is the last.
 ///
 /// Where the source is whole messages that a server can be sent, within a stream's limits, and none of the
-/// outside fails, those before the first CloseConnection or MessageError are all answered, or memory is wanted.
+/// outside fails, those before the first CloseConnection or MessageError are all answered, or memory runs out.
 pub fn serve_stream<V: Servant, S: Source, K: Sink>(
     alloc: Global,
     servant: &mut V,

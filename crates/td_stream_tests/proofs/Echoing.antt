@@ -5,9 +5,9 @@ use Rattle.std.proofs.lemmas.List.Elements.{All-nil, All-cons}
 use Rattle.td_cdr.specs.Place.{At}
 use Rattle.td_cdr.specs.declared.order.Order.{Order}
 use Rattle.td_giop.specs.Heads.{Request, behind_header, request_at, locate_at}
-use Rattle.td_giop.specs.Written.{locate_reply_written, sealed}
+use Rattle.td_giop.specs.Written.{locate_reply_written, seal_size}
 use Rattle.td_giop.specs.declared.raw.Raw.{Raw}
-use Rattle.td_stream.specs.Exchanges.{Exchange, Run}
+use Rattle.td_stream.specs.Exchanges.{MessageExchange, Run}
 use Rattle.td_stream.specs.Heads.{IsMessage}
 use Rattle.td_stream.specs.Messages.{behind, order_of}
 use Rattle.td_stream.specs.Outside.{Outside}
@@ -37,7 +37,7 @@ pub request_echoed : {E : Type 0} (result : Result (Unit {0}) E) (m : Raw) (head
     → request_at m.minor (behind_header m.order m.bytes.now) ≡ Ok (head, body) → order ≡ m.order
     → OnOk result (reply ≡ cond head.answered (echo_of order m.minor head body) [])
     → OnOk result (Echoes m.bytes.now reply)
-request_echoed (Ok u) m head body order reply is kind read same told =
+request_echoed (Ok u) m head body order reply is kind read same content =
     request (record {
       head = head;
       body = body;
@@ -45,35 +45,35 @@ request_echoed (Ok u) m head body order reply is kind read same told =
       read =
           subst (λ (n : ℕ). request_at n (behind m.bytes.now) ≡ Ok (head, body)) is.minor
           (subst (λ (o : Order). request_at m.minor (behind_header o m.bytes.now) ≡ Ok (head, body)) is.order read);
-      told =
+      content =
           subst (λ (n : ℕ). reply ≡ cond head.answered (echo_of (order_of m.bytes.now) n head body) []) is.minor
-          (subst (λ (o : Order). reply ≡ cond head.answered (echo_of o m.minor head body) []) (same ∙ is.order) told);
+          (subst (λ (o : Order). reply ≡ cond head.answered (echo_of o m.minor head body) []) (same ∙ is.order) content);
     })
-request_echoed (Err f) m head body order reply is kind read same told = tt
+request_echoed (Err f) m head body order reply is kind read same content = tt
 
 pub locate_echoed : {E : Type 0} (result : Result (Unit {0}) E) (m : Raw) (id : ℕ) (key : List ℕ) (order : Order)
     (reply : List ℕ) → IsMessage m → m.kind ≡ 3 → locate_at (behind_header m.order m.bytes.now) ≡ Ok (id, key)
-    → order ≡ m.order → OnOk result (reply ≡ sealed order (locate_reply_written order m.minor id 1))
+    → order ≡ m.order → OnOk result (reply ≡ seal_size order (locate_reply_written order m.minor id 1))
     → OnOk result (Echoes m.bytes.now reply)
-locate_echoed (Ok u) m id key order reply is kind read same told =
+locate_echoed (Ok u) m id key order reply is kind read same content =
     locate (record {
       id = id;
       key = key;
       kind = sym is.kind ∙ kind;
       read = subst (λ (o : Order). locate_at (behind_header o m.bytes.now) ≡ Ok (id, key)) is.order read;
-      told =
-          subst (λ (n : ℕ). reply ≡ sealed (order_of m.bytes.now) (locate_reply_written (order_of m.bytes.now) n id 1))
+      content =
+          subst (λ (n : ℕ). reply ≡ seal_size (order_of m.bytes.now) (locate_reply_written (order_of m.bytes.now) n id 1))
           is.minor
-          (subst (λ (o : Order). reply ≡ sealed o (locate_reply_written o m.minor id 1)) (same ∙ is.order) told);
+          (subst (λ (o : Order). reply ≡ seal_size o (locate_reply_written o m.minor id 1)) (same ∙ is.order) content);
     })
-locate_echoed (Err f) m id key order reply is kind read same told = tt
+locate_echoed (Err f) m id key order reply is kind read same content = tt
 
 -- ---- a stream
 
-each_echoed : (s u : Unit {0}) (xs : List Exchange) → Run EchoesSo s xs u → All (λ x. Echoes x.message x.reply) xs
-each_echoed s u [] r = All-nil (λ (x : Exchange). Echoes x.message x.reply)
+each_echoed : (s u : Unit {0}) (xs : List MessageExchange) → Run EchoesSo s xs u → All (λ x. Echoes x.message x.reply) xs
+each_echoed s u [] r = All-nil (λ (x : MessageExchange). Echoes x.message x.reply)
 each_echoed s u (x ∷ xs) r =
-    All-cons (λ (y : Exchange). Echoes y.message y.reply) x xs r.1.served (each_echoed r.0 u xs r.2)
+    All-cons (λ (y : MessageExchange). Echoes y.message y.reply) x xs r.1.served (each_echoed r.0 u xs r.2)
 
 pub echoes_all : (s u : Unit {0}) (end : End) (before after : Outside) → Streams EchoesSo Any s u end before after
     → EchoesAll end before after

@@ -57,7 +57,7 @@ impl<'c> Servant for Counting<'c> {
 
     ghost same = { λ _ _. Unit {0} };
 
-    ghost told = { λ s. s.reply.items };
+    ghost content = { λ s. s.reply.items };
 
     ghost budget = { λ _. 0 };
 
@@ -84,13 +84,13 @@ impl<'c> Servant for Counting<'c> {
         }
         let least = self.plan.least.saturating_mul(self.answered as usize);
         self.answered = self.answered.saturating_add(1);
-        let told = if self.got.get().bytes < least {
+        let content = if self.got.get().bytes < least {
             0
         } else {
             self.answered
         };
         self.reply.clear();
-        fill(&mut self.reply, told, self.plan.size)
+        fill(&mut self.reply, content, self.plan.size)
     }
 
     fn reply(&self) -> &[u8] {
@@ -102,7 +102,7 @@ impl<'c> Servant for Counting<'c> {
 ///
 /// # Errors
 ///
-/// `Memory` for want of memory.
+/// `Memory` when out of memory.
 pub fn fill(all: &mut Vec<u8>, octet: u8, size: usize) -> Result<(), Memory> {
     for _ in 0..size {
         all.push(octet)?;

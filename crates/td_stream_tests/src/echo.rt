@@ -2,7 +2,7 @@
 
 ghost use Rattle.std.specs.Prelude.{◌≡◌, ◌≤◌, [], OnOk, if◌then◌else◌};
 ghost use Rattle.td_giop.specs.declared.header.TheConstants.{NEWEST_MINOR};
-ghost use Rattle.td_giop.specs.Written.{locate_reply_written, sealed};
+ghost use Rattle.td_giop.specs.Written.{locate_reply_written, seal_size};
 ghost use Rattle.td_stream.specs.Heads.{asked_of};
 ghost use Rattle.td_stream.specs.Outside.{outside};
 ghost use Rattle.td_stream_tests.specs.Echoes.{Any, EchoesAll, EchoesSo, echo_of};
@@ -37,7 +37,7 @@ impl Servant for Echo {
 
     ghost same = { λ _ _. Unit {0} };
 
-    ghost told = { λ s. s.reply.bytes };
+    ghost content = { λ s. s.reply.bytes };
 
     ghost budget = { λ _. 0 };
 
@@ -90,7 +90,7 @@ fn write_here(reply: &mut Writer, minor: u8, id: u32) -> Result<(), Memory>
     requires empty { reply.old.bytes ≡ [] }
     requires minor { minor ≤ NEWEST_MINOR }
     ensures { OnOk result (reply.new.bytes
-        ≡ sealed reply.old.order (locate_reply_written reply.old.order minor id 1)) }
+        ≡ seal_size reply.old.order (locate_reply_written reply.old.order minor id 1)) }
 {
     write_locate_reply(reply, minor, id, 1)?;
     seal(reply);

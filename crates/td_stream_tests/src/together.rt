@@ -24,7 +24,7 @@ struct Case {
     most: usize,
     end: End,
     /// What the replies tell, and how many bytes of them come; behind them comes this.
-    told: &'static [u8],
+    content: &'static [u8],
     wrote: usize,
     last: &'static [u8],
     writes: usize,
@@ -45,7 +45,7 @@ const THREE: Case = Case {
     failing: 0,
     most: usize::MAX,
     end: End::Closed,
-    told: &[1, 2, 3],
+    content: &[1, 2, 3],
     wrote: 6,
     last: &[],
     writes: 1,
@@ -55,7 +55,7 @@ const THREE: Case = Case {
 /// The bytes that come.
 fn given(alloc: Global, case: &Case) -> Result<Vec<u8>, Memory> {
     let mut all = Vec::new(alloc);
-    for octet in case.told {
+    for octet in case.content {
         fill(&mut all, *octet, case.plan.size)?;
     }
     all.truncate(case.wrote);
@@ -122,7 +122,7 @@ fn a_client_waits_for_no_reply(rt: HostRuntime) -> Result<(), Fail> {
         sent: &[REQUEST, REQUEST, REQUEST, REQUEST],
         cut: 160,
         waits: 6,
-        told: &[1, 2, 3, 4],
+        content: &[1, 2, 3, 4],
         wrote: 8,
         writes: 2,
         answered: 4,
@@ -132,7 +132,7 @@ fn a_client_waits_for_no_reply(rt: HostRuntime) -> Result<(), Fail> {
     let unheard = Case {
         waits: 7,
         end: End::ReadFault,
-        told: &[1, 2, 3],
+        content: &[1, 2, 3],
         wrote: 6,
         writes: 1,
         answered: 3,
@@ -163,7 +163,7 @@ fn replies_go_out_before_a_servant_waits(rt: HostRuntime) -> Result<(), Fail> {
             sends: false,
             ..ASKING.plan
         },
-        told: &[1, 0, 0],
+        content: &[1, 0, 0],
         writes: 1,
         ..ASKING
     };
@@ -212,7 +212,7 @@ fn a_failed_write_before_a_servant_waits_ends_a_stream(rt: HostRuntime) -> Resul
         answered: 1,
         ..first
     };
-    assert!(rt; comes(alloc, &full)?, "nor does it end for want of memory");
+    assert!(rt; comes(alloc, &full)?, "nor does it end when out of memory");
     Ok(())
 }
 
@@ -267,7 +267,7 @@ const CLOSED: Case = Case {
     failing: 0,
     most: usize::MAX,
     end: End::Closed,
-    told: &[1, 2],
+    content: &[1, 2],
     wrote: 4,
     last: &[],
     writes: 1,
@@ -313,7 +313,7 @@ fn a_broken_stream_sends_what_is_held(rt: HostRuntime) -> Result<(), Fail> {
 }
 
 #[test]
-fn want_of_memory_and_a_fault_send_what_is_held(rt: HostRuntime) -> Result<(), Fail> {
+fn no_memory_and_a_fault_send_what_is_held(rt: HostRuntime) -> Result<(), Fail> {
     let alloc = rt.alloc();
     let memory = Case {
         sent: THREE.sent,

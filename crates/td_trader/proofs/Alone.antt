@@ -24,10 +24,11 @@ use Rattle.td_trader.specs.OfferLimits.{HasLimitedOffers}
 use Rattle.td_trader.specs.PlainTraders.{HasShortReplies, PlainTrader, after_change, after_outcome, begin_at}
 use Rattle.td_trader.specs.PlainTraders.{outcome_of, store_of}
 use Rattle.td_trader.specs.PlainTraders.{after_begin as trader_after}
-use Rattle.td_trader.specs.Solos.{AreDistinct, nothing, places, solo_view, unchanged, up_to}
+use Rattle.td_trader.specs.Solos.{AreDistinct, no_changes, places, solo_view, same_marks, up_to}
 use Rattle.td_register.specs.Stores.{Store}
-use Rattle.td_trader.specs.Worlds.{AdmittedAt, AdmittedIn, Begun, number_between, after_begin as seen_after}
-use Rattle.td_trader.specs.Worlds.{Changes, LegalAt, LegalIn, Looks, Meanwhile, View, Watches, after_own, history_at}
+use Rattle.td_trader.specs.Worlds.{AdmittedAt, AdmittedIn, BeginsQuery, number_between, after_begin as seen_after}
+use Rattle.td_trader.specs.Worlds.{ChangesTrader, LegalAt, LegalIn, LooksAtTrader, Meanwhile, View, Watches, after_own}
+use Rattle.td_trader.specs.Worlds.{history_at}
 use Rattle.td_trader.specs.Worlds.{history_in, name_at, name_in, with_view}
 use Rattle.td_trader.specs.declared.begin.Begin.{Begin}
 use Rattle.td_trader.specs.declared.begin.Begin.TheVariants.{Refused, Repeat, Search, Path}
@@ -44,14 +45,14 @@ unfolding LegalFrom
 legal-none b n s = tt
 
 own-view : (t : PlainTrader) (c : Change) (o : Outcome) → solo_view (after_outcome t c o) ≡ after_own (solo_view t) c o
-own-view t c (Done told) =
-    ap (λ (ps : List ℕ). record (solo_view t) { history = t.history ++ entry c told ∷ []; own = ps })
-    (places-snoc 0 t.history (entry c told) ∙ ap (λ n. places 0 t.history ++ n ∷ []) (zero-add (length t.history)))
+own-view t c (Done content) =
+    ap (λ (ps : List ℕ). record (solo_view t) { history = t.history ++ entry c content ∷ []; own = ps })
+    (places-snoc 0 t.history (entry c content) ∙ ap (λ n. places 0 t.history ++ n ∷ []) (zero-add (length t.history)))
 own-view t c (User e) = refl
 own-view t c (System kind minor completion) = refl
 
 same-name : (t : PlainTrader) (c : Change) (o : Outcome) → (after_outcome t c o).name ≡ t.name
-same-name t c (Done told) = refl
+same-name t c (Done content) = refl
 same-name t c (User e) = refl
 same-name t c (System kind minor completion) = refl
 
@@ -117,7 +118,7 @@ module _ (ts : List PlainTrader) (k : ℕ) (t : PlainTrader) (inside : k < lengt
   world-same : map solo_view (slice_set ts k t) ≡ with_view (map solo_view ts) k (solo_view t)
   world-same = map-set solo_view ts k t
 
-  quiet : Meanwhile nothing unchanged (map solo_view ts) k (solo_view t)
+  quiet : Meanwhile no_changes same_marks (map solo_view ts) k (solo_view t)
   quiet = record {
     view = solo_view t;
     between = [];
@@ -136,7 +137,7 @@ module _ (ts : List PlainTrader) (k : ℕ) (t : PlainTrader) (inside : k < lengt
 
   pub changes : (u : PlainTrader) (c : Change) (r : Result Outcome Memory) → IfOk r (λ o. o ≡ outcome_of t c) →
       OnOk r (u ≡ after_change t c) →
-      IfOk r (λ o. Changes nothing unchanged (map solo_view ts) k c o (map solo_view (slice_set ts k u)))
+      IfOk r (λ o. ChangesTrader no_changes same_marks (map solo_view ts) k c o (map solo_view (slice_set ts k u)))
   changes u c (Ok o) out is_after = record {
     seen = solo_view t;
     meanwhile = quiet;
@@ -148,7 +149,7 @@ module _ (ts : List PlainTrader) (k : ℕ) (t : PlainTrader) (inside : k < lengt
 
   pub begins : (u : PlainTrader) (q : Query) (r : Result Begin Memory) → IfOk r (λ b. b ≡ begin_at t q) →
       HasLimitedOffers (store_of t) → IfOk r (λ b. u ≡ trader_after t q b) →
-      IfOk r (λ b. Begun nothing unchanged (map solo_view ts) k q b (map solo_view (slice_set ts k u)))
+      IfOk r (λ b. BeginsQuery no_changes same_marks (map solo_view ts) k q b (map solo_view (slice_set ts k u)))
   begins u q (Ok b) is_begin limited is_after = record {
     seen = solo_view t;
     meanwhile = quiet;
@@ -159,7 +160,7 @@ module _ (ts : List PlainTrader) (k : ℕ) (t : PlainTrader) (inside : k < lengt
   begins u q (Err e) is_begin limited is_after = tt
 
   pub watches : {X : Type 0} (u : PlainTrader) (r : Result X Memory) → OnErr r (u ≡ t) →
-      OnErr r (Watches nothing unchanged (map solo_view ts) k (map solo_view (slice_set ts k u)))
+      OnErr r (Watches no_changes same_marks (map solo_view ts) k (map solo_view (slice_set ts k u)))
   watches u (Ok x) same = tt
   watches u (Err e) same = record {
     seen = solo_view t;
@@ -171,11 +172,11 @@ module _ (ts : List PlainTrader) (k : ℕ) (t : PlainTrader) (inside : k < lengt
   world-kept = ap (map solo_view) (sym set_same) ∙ world-same
 
   pub looks : (l : Look) (r : Result (Outcome × ℕ) Memory) → IfOk r (λ a. a ≡ seek (store_of t) l) →
-      IfOk r (λ a. Looks nothing unchanged (map solo_view ts) k l a (map solo_view ts))
+      IfOk r (λ a. LooksAtTrader no_changes same_marks (map solo_view ts) k l a (map solo_view ts))
   looks l (Ok a) h = record { seen = solo_view t; meanwhile = quiet; answer = h; world = world-kept }
   looks l (Err e) h = tt
 
-  pub unseen : {X : Type 0} (r : Result X Memory) → OnErr r (Watches nothing unchanged (map solo_view ts) k (map
+  pub unseen : {X : Type 0} (r : Result X Memory) → OnErr r (Watches no_changes same_marks (map solo_view ts) k (map
       solo_view ts))
   unseen (Ok x) = tt
   unseen (Err e) = record { seen = solo_view t; meanwhile = quiet; world = world-kept }

@@ -1,7 +1,7 @@
 -- How a query begins, by cases on why it may not be searched here.
 use Rattle.std.proofs.Common.{◌≡◌, ℕ, ◌+◌, ◌≤◌, List, Option, Some, None, refl, sym, ap, subst, ◌∙◌, arith}
 use Rattle.std.specs.Option.{option_and_then}
-use Rattle.td_cdr.specs.Marks.{Marks, Holds, Later, remembered, marked, made_identifier}
+use Rattle.td_cdr.specs.Marks.{Marks, RemembersAs, Later, remembered, add_mark, made_identifier}
 use Rattle.td_cdr.proofs.Marking.{is_held, is_not_held, follows, newest, later_itself}
 use Rattle.td_marks.specs.Making.{next_value, IsNextValue}
 use Rattle.td_marks.proofs.Free.{is_next}
@@ -11,7 +11,8 @@ use Rattle.td_store.specs.declared.record.LinkRecord.{LinkRecord}
 use Rattle.td_register.specs.Causes.{Cause}
 use Rattle.td_trader.specs.Queries.{parts_of, path_link, refusal}
 use Rattle.td_trader.specs.Serving.{local_of, path_of}
-use Rattle.td_trader.specs.Beginning.{Begins, after_begin, begin_along, begin_here, begin_of, begin_unless, identified}
+use Rattle.td_trader.specs.Beginning.{Begins, after_begin, begin_along, begin_here, begin_of, begin_unless}
+use Rattle.td_trader.specs.Beginning.{query_identifier}
 use Rattle.td_trader.specs.Beginning.{repeated_in, searched_under}
 use Rattle.td_trader.specs.BeginLaws.{AreKept, MarksGrowLater, OnlySearchesMark, QueriesBegin}
 use Rattle.td_trader.specs.BeginLaws.{PathsAreServed, RememberedIsNotMarked, SearchesAreServed, SearchesMarkOnce}
@@ -29,7 +30,7 @@ none_some x h = cc
 pub record IsStatedAs (m : Marks) (stated : Option (List ℕ)) (number : ℕ) : Type 0 where
   pub identifier : List ℕ
   pub is : stated ≡ Some identifier
-  pub held : Holds m identifier number
+  pub held : RemembersAs m identifier number
 
 held_as : (m : Marks) (stated : Option (List ℕ)) (number : ℕ) → option_and_then (remembered m) stated ≡ Some number
     → IsStatedAs m stated number
@@ -41,13 +42,13 @@ free_value m stem k = is_next m stem k.orderly k.left
 
 not_held : (m : Marks) (stem : List ℕ) (stated : Option (List ℕ)) → AreKept m
     → option_and_then (remembered m) stated ≡ None → (number : ℕ)
-    → Holds m (identified m stem stated).identifier number → ⊥
+    → RemembersAs m (query_identifier m stem stated).identifier number → ⊥
 not_held m stem None k h number =
     is_not_held m (made_identifier stem (next_value m stem)) (free_value m stem k).free number
 not_held m stem (Some i) k h number = is_not_held m i h number
 
 pub counter_rises : (m : Marks) (stem : List ℕ) (stated : Option (List ℕ)) → AreKept m
-    → m.counter ≤ (identified m stem stated).counter
+    → m.counter ≤ (query_identifier m stem stated).counter
 counter_rises m stem None k = let from = (free_value m stem k).from in omega arith
 counter_rises m stem (Some i) k = omega arith
 
@@ -80,7 +81,7 @@ module _ (bounds : Bounds) (s : Store) (point : ℕ) (m : Marks) (q : Query) whe
 
   pub unless_is : AreKept m → (cause : Cause) → refusal bounds m.count s q ≡ cause
       → Begins bounds s point m q (begin_unless cause s point m q)
-  unless_is k (Some f) h = record { cause = f; first = h; told = refl }
+  unless_is k (Some f) h = record { cause = f; first = h; content = refl }
   unless_is k None h = along_is k h (path_link s.links (parts_of q).stated) refl
 
 pub queries_begin : QueriesBegin
@@ -142,7 +143,7 @@ marks_once bounds s point m q l h =
       served = ap (λ (z : Local). z.identifier) is ∙ identifier_of s point (m.count + 1) i q;
       mark = mark;
       count = sym mark;
-      held = subst (Holds (marked m i c) i) (sym mark) (newest m i c);
+      held = subst (RemembersAs (add_mark m i c) i) (sym mark) (newest m i c);
     }
 
 same_some : (a b : List ℕ) → ◌≡◌ {A = Option (List ℕ)} (Some a) (Some b) → a ≡ b
@@ -157,7 +158,7 @@ not_marked bounds s point m q l identifier number k h named held =
     let begun : Begins bounds s point m q (Search l) =
     subst (Begins bounds s point m q) h (queries_begin bounds s point m q k) in
     let one : identifier ≡ i = same_some identifier i same in
-    begun.fresh number (subst (λ (j : List ℕ). Holds m j number) one held)
+    begun.fresh number (subst (λ (j : List ℕ). RemembersAs m j number) one held)
 
 later_so : (bounds : Bounds) (s : Store) (point : ℕ) (m : Marks) (q : Query) → AreKept m → (b : Begin)
     → Begins bounds s point m q b → Later m (after_begin s m q b)

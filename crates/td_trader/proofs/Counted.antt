@@ -2,8 +2,8 @@
 use Rattle.std.proofs.Common.{◌≡◌, ℕ, ◌<◌, ◌≤◌, ◌^◌, Bool, true, false, nat_le, None, Some, refl, arith}
 use Rattle.std.proofs.lemmas.Bool.{leb-false}
 use Rattle.td_ops.specs.declared.call.Query.{Query}
-use Rattle.td_register.specs.Causes.{Cause, given, limit_if, ◌otherwise◌}
-use Rattle.td_register.specs.Named.{known}
+use Rattle.td_register.specs.Causes.{Cause, with_cause, limit_if, ◌otherwise◌}
+use Rattle.td_register.specs.Named.{type_found}
 use Rattle.td_trader.specs.Queries.{desired_cause, first_name, parts_cause, parts_of, refusal, start_cause}
 use Rattle.td_register.specs.Registers.{no_more}
 use Rattle.td_register.specs.Stores.{Store}
@@ -21,7 +21,7 @@ pub has-room : (bounds : Bounds) (count : ℕ) (s : Store) (q : Query) → refus
     → bounds.begins ≤ 2 ^ 40 → count < 2 ^ 40
 unfolding refusal
 has-room bounds count s q h most =
-    let others = no_later (parts_cause q) _ (no_later (given (known s.types.types q.service_type) no_more) _ h) in
+    let others = no_later (parts_cause q) _ (no_later (with_cause (type_found s.types.types q.service_type) no_more) _ h) in
     let last = no_later (start_cause s.links q.policies (first_name (parts_of q).stated)) _ (no_later (desired_cause
     q.desired) _ others) in
     let below : count < bounds.begins = leb-false bounds.begins count (no_limit (nat_le bounds.begins count) last) in

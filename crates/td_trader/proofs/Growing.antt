@@ -5,7 +5,7 @@ use Rattle.td_cdr.specs.Marks.{Marks}
 use Rattle.td_cdr.specs.declared.memory.Memory.{Memory}
 use Rattle.td_cdr.proofs.Marking.{later_itself, later_on}
 use Rattle.td_ops.specs.declared.call.Change.{Change}
-use Rattle.td_marks.specs.Keeping.{IsKept as AreMarks}
+use Rattle.td_marks.specs.Keeping.{AreRingMarks as AreMarks}
 use Rattle.td_ops.specs.declared.call.Look.{Look}
 use Rattle.td_ops.specs.declared.call.Query.{Query}
 use Rattle.td_ops.specs.declared.outcome.Outcome.{Outcome}
@@ -15,9 +15,9 @@ use Rattle.td_changes.specs.Applying.{apply}
 use Rattle.td_trader.specs.Admitted.{AdmitsChange, AreAdmitted}
 use Rattle.td_trader.specs.Following.{ActsBegin, ActsChange, ActsLook, ActsOnce, BeginsOnce, Follows, FollowsWritably}
 use Rattle.td_trader.specs.Following.{MarksOnce}
-use Rattle.td_changes.specs.Histories.{Legal, LegalFrom, StandsAt, after_all, is_done, noted}
+use Rattle.td_changes.specs.Histories.{Legal, LegalFrom, StandsAt, after_all, is_done, add_accepted}
 use Rattle.td_register.specs.Entries.{entry}
-use Rattle.td_changes.specs.Laws.{Extends, applied_after}
+use Rattle.td_changes.specs.Laws.{ExtendsLegally, applied_after}
 use Rattle.td_trader.specs.PlainTraders.{AreBounds, PlainTrader, after_begin, after_change, after_outcome, begin_at}
 use Rattle.td_trader.specs.PlainTraders.{outcome_of, store_of}
 use Rattle.td_register.specs.Stores.{Store}
@@ -38,11 +38,11 @@ pub legal-none : (b : Bounds) (n : ℕ) (s : Store) → LegalFrom b n s []
 unfolding LegalFrom
 legal-none b n s = tt
 
-legal-one : (b : Bounds) (opening : Store) (h : List Accepted) (c : Change) (told : Reply) →
-    (applied_after b opening h c).outcome ≡ Done told →
-    LegalFrom b (length h) (after_all opening h) (entry c told ∷ [])
+legal-one : (b : Bounds) (opening : Store) (h : List Accepted) (c : Change) (content : Reply) →
+    (applied_after b opening h c).outcome ≡ Done content →
+    LegalFrom b (length h) (after_all opening h) (entry c content ∷ [])
 unfolding LegalFrom
-legal-one b opening h c told e = (e, tt)
+legal-one b opening h c content e = (e, tt)
 
 pub legal-append : (b : Bounds) (n : ℕ) (s : Store) (xs ys : List Accepted) → LegalFrom b n s xs →
     LegalFrom b (n + length xs) (after_all s xs) ys → LegalFrom b n s (xs ++ ys)
@@ -100,14 +100,14 @@ stays t u e =
 
 left : (t : PlainTrader) (c : Change) (o : Outcome) → (applied_after t.bounds t.opening t.history c).outcome ≡ o →
     ActsOnce t (after_outcome t c o)
-left t c (Done told) e = record {
+left t c (Done content) e = record {
   follows = record {
     name = refl;
     opening = refl;
     bounds = refl;
-    more = entry c told ∷ [];
+    more = entry c content ∷ [];
     history = refl;
-    legal = legal-one t.bounds t.opening t.history c told e;
+    legal = legal-one t.bounds t.opening t.history c content e;
     marks = later_itself t.marks;
   };
   once = rw length-append (omega arith);
@@ -186,7 +186,7 @@ left-writable : (t : PlainTrader) (c : Change) (o : Outcome)
     → (applied_after t.bounds t.opening t.history c).outcome ≡ o → AdmitsChange c
     → FollowsWritably t (after_outcome t c o)
 unfolding left
-left-writable t c (Done told) e h = record { follows = (left t c (Done told) e).follows; admitted = (h, tt) }
+left-writable t c (Done content) e h = record { follows = (left t c (Done content) e).follows; admitted = (h, tt) }
 left-writable t c (User f) e h = writable-itself t
 left-writable t c (System kind minor completion) e h = writable-itself t
 
@@ -207,18 +207,18 @@ begin-writable t u q r bounds marks h =
 
 -- ---- what is recorded
 
-history-noted : (t : PlainTrader) (c : Change) (o : Outcome) → (after_outcome t c o).history ≡ noted t.history c o
-history-noted t c (Done told) = refl
+history-noted : (t : PlainTrader) (c : Change) (o : Outcome) → (after_outcome t c o).history ≡ add_accepted t.history c o
+history-noted t c (Done content) = refl
 history-noted t c (User f) = refl
 history-noted t c (System kind minor completion) = refl
 
 opening-same : (t : PlainTrader) (c : Change) (o : Outcome) → (after_outcome t c o).opening ≡ t.opening
-opening-same t c (Done told) = refl
+opening-same t c (Done content) = refl
 opening-same t c (User f) = refl
 opening-same t c (System kind minor completion) = refl
 
 refused-same : (t : PlainTrader) (c : Change) (o : Outcome) → is_done o ≡ false → after_outcome t c o ≡ t
-refused-same t c (Done told) e = absurd cc
+refused-same t c (Done content) e = absurd cc
 refused-same t c (User f) e = refl
 refused-same t c (System kind minor completion) e = refl
 
@@ -226,17 +226,17 @@ pub refused-leaves : (t : PlainTrader) (c : Change) → is_done (outcome_of t c)
 refused-leaves t c e = refused-same t c (outcome_of t c) e
 
 module _ (t : PlainTrader) (c : Change) (l : Legal t.bounds t.opening t.history) where
-  extends : Extends t.bounds t.opening t.history c (applied_after t.bounds t.opening t.history c) (noted t.history c
+  extends : ExtendsLegally t.bounds t.opening t.history c (applied_after t.bounds t.opening t.history c) (add_accepted t.history c
       (outcome_of t c))
   extends = extended t.bounds t.opening t.history c l
 
-  noted-is : (after_change t c).history ≡ noted t.history c (outcome_of t c)
+  noted-is : (after_change t c).history ≡ add_accepted t.history c (outcome_of t c)
   noted-is = history-noted t c (outcome_of t c)
 
-  pub stands-there : (told : Reply) → outcome_of t c ≡ Done told →
-      StandsAt (after_change t c).history (length t.history) c told
-  stands-there told e =
-      subst (λ (h : List Accepted). StandsAt h (length t.history) c told) (sym noted-is) (extends.stands told e)
+  pub stands-there : (content : Reply) → outcome_of t c ≡ Done content →
+      StandsAt (after_change t c).history (length t.history) c content
+  stands-there content e =
+      subst (λ (h : List Accepted). StandsAt h (length t.history) c content) (sym noted-is) (extends.stands content e)
 
   pub legal-there : Legal t.bounds t.opening (after_change t c).history
   legal-there = subst (Legal t.bounds t.opening) (sym noted-is) extends.legal

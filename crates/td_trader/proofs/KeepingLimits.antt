@@ -19,7 +19,7 @@ use Rattle.td_changes.proofs.Steps.{Keeps, accepted, added, applied_keeps, fewer
 use Rattle.td_changes.proofs.Steps.{typed}
 use Rattle.td_changes.specs.Applying.{apply}
 use Rattle.td_changes.specs.Histories.{after_all}
-use Rattle.td_changes.specs.Numbering.{IsGiven}
+use Rattle.td_changes.specs.Numbering.{IsNumbered}
 use Rattle.td_trader.specs.OfferLimits.{ChangesKeepLimits, HasLimitedOffers, HistoriesKeepLimits, IsWithinLimits}
 
 -- ---- one offer more
@@ -74,7 +74,7 @@ keeps s _ (added o is room) h = record {
       let k = small o.reference o.properties room.fits in
       push-all IsWithinLimits s.offers o h.within (record { properties = k.0; bytes = k.1 });
   rise = rise-push s.offers o h.rise
-      (weaker (IsGiven s.last_offer) (λ x. x.number < o.number) s.offers
+      (weaker (IsNumbered s.last_offer) (λ x. x.number < o.number) s.offers
       (λ x given. let below = given.1 in omega (arith, below, is)) h.numbered);
   numbered = numbered s _ (added o is room) h.numbered;
 }
@@ -93,7 +93,7 @@ keeps s _ (set a stem) h = record { within = h.within; rise = h.rise; numbered =
 keeps s _ (typed r) h = record { within = h.within; rise = h.rise; numbered = h.numbered }
 
 pub changes_keep : ChangesKeepLimits
-changes_keep s after c told h e = keeps s after (accepted s c told after e).step h
+changes_keep s after c content h e = keeps s after (accepted s c content after e).step h
 
 pub limited_behind : (s : Store) (entries : List Accepted) → HasLimitedOffers s
     → HasLimitedOffers (after_all s entries)
@@ -117,5 +117,5 @@ unfolding IsStrictlySortedBy
 no_offers s e = record {
   within = subst (AllByRecursion IsWithinLimits) (sym e) tt;
   rise = subst NumbersRise (sym e) tt;
-  numbered = subst (AllByRecursion (IsGiven s.last_offer)) (sym e) tt;
+  numbered = subst (AllByRecursion (IsNumbered s.last_offer)) (sym e) tt;
 }

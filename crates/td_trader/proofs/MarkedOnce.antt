@@ -2,7 +2,7 @@
 use Rattle.std.proofs.Common.{◌≡◌, ℕ, ◌<◌, ◌≤◌, ◌^◌, inl, inr, Some, None, refl, sym, subst, arith}
 use Rattle.td_cdr.specs.Marks.{Marks, Later}
 use Rattle.td_cdr.proofs.Marking.{follows, later_itself}
-use Rattle.td_marks.specs.Keeping.{IsKept}
+use Rattle.td_marks.specs.Keeping.{AreRingMarks}
 use Rattle.td_ops.specs.declared.call.Query.{Query}
 use Rattle.td_trader.specs.BeginLaws.{AreKept}
 use Rattle.td_trader.specs.Beginning.{Begins, after_begin, begin_of, begin_unless, searched_under}
@@ -18,7 +18,7 @@ use Rattle.td_trader.proofs.Begun.{counter_rises, unless_is}
 use Rattle.td_trader.proofs.Counted.{has-room}
 
 -- while no more marks were made values are left
-pub left-over : (m : Marks) → IsKept m → m.count < 2 ^ 40 → AreKept m
+pub left-over : (m : Marks) → AreRingMarks m → m.count < 2 ^ 40 → AreKept m
 left-over m k few =
     let within = k.within in
     let most = k.most in
@@ -43,13 +43,13 @@ module _ (bounds : Bounds) (s : Store) (point : ℕ) (m : Marks) (q : Query) whe
   unfolding after_begin
   unmarked f = inl refl
 
-  unless-once : bounds.begins ≤ 2 ^ 40 → IsKept m → (cause : Cause) → refusal bounds m.count s q ≡ cause
+  unless-once : bounds.begins ≤ 2 ^ 40 → AreRingMarks m → (cause : Cause) → refusal bounds m.count s q ≡ cause
       → MarksOnce m (after_begin s m q (begin_unless cause s point m q))
   unless-once most k (Some f) h = unmarked f
   unless-once most k None h =
       let kept = left-over m k (has-room bounds m.count s q h most) in
       taken-once kept (begin_unless None s point m q) (unless_is bounds s point m q kept None h)
 
-  pub marked-once : bounds.begins ≤ 2 ^ 40 → IsKept m → MarksOnce m (after_begin s m q (begin_of bounds s point m q))
+  pub marked-once : bounds.begins ≤ 2 ^ 40 → AreRingMarks m → MarksOnce m (after_begin s m q (begin_of bounds s point m q))
   unfolding begin_of
   marked-once most k = unless-once most k (refusal bounds m.count s q) refl

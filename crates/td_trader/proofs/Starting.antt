@@ -8,10 +8,10 @@ use Rattle.std.specs.Str.{bytes_eq}
 use Rattle.td_cdr.specs.Format.{◌>>=◌}
 use Rattle.td_cdr.specs.Names.{identifier}
 use Rattle.td_cdr.specs.Seen.{is_among}
-use Rattle.td_policy.specs.Stated.{known, next_stated, nothing, policies, stated_after, stated_value, states}
+use Rattle.td_policy.specs.Stated.{if_known, next_stated, nothing, policies, stated_after, stated_value, states}
 use Rattle.td_policy.specs.Stated.{with_policy}
 use Rattle.td_policy.specs.Fields.{Field, start, kind_of, name_of, put}
-use Rattle.td_policy.specs.Values.{Kind}
+use Rattle.td_policy.specs.Values.{PolicyKind}
 use Rattle.td_policy.specs.declared.fault.PolicyFault.{PolicyFault}
 use Rattle.td_policy.specs.declared.fault.PolicyFault.TheVariants as fault
 use Rattle.td_policy.specs.declared.stated.Stated.{Stated}
@@ -33,7 +33,7 @@ put_kept : {A : Type 0} (r : Result (Option A) PolicyFault) (put : Option A → 
 put_kept (Ok x) put s t other h = ap (λ (z : Stated). z.start) (sym (same_ok (put x s) t h)) ∙ other x s
 put_kept (Err e) put s t other h = absurd (let bad : ⊥ = cc in bad)
 
-keeps : {A : Type 0} (kind : Kind A) (put : Option A → Stated → Stated)
+keeps : {A : Type 0} (kind : PolicyKind A) (put : Option A → Stated → Stated)
     → ((x : Option A) (u : Stated) → (put x u).start ≡ u.start) → Keeps (states kind put)
 keeps kind put other p s t h = put_kept (stated_value kind p) put s t other h
 
@@ -68,7 +68,7 @@ module _ (name : List ℕ) where
   each_keeps = each (λ x. bytes_eq name x.0 ≡ true → KeepsOrStarts x.1) by_field
 
   known_keeps : (found : Option States) (p : Policy) (s t : Stated) → lookup (bytes_eq name) policies ≡ found
-      → known found p s ≡ Ok t → (t.start ≡ s.start) ⊎ is_start
+      → if_known found p s ≡ Ok t → (t.start ≡ s.start) ⊎ is_start
   known_keeps None p s t is h = inl (ap (λ (z : Stated). z.start) (sym (same_ok s t h)))
   known_keeps (Some e) p s t is h = either (looked (bytes_eq name) KeepsOrStarts policies each_keeps e is)
     where
@@ -133,11 +133,11 @@ refuses links ps s name first lost has = record {
   refused = rw (first, lost, has.1) refl;
 }
 
-told : (links : List LinkRecord) (ps : List Policy) (s : Stated) (name : List ℕ) → first_name s ≡ Some name
+content : (links : List LinkRecord) (ps : List Policy) (s : Stated) (name : List ℕ) → first_name s ≡ Some name
     → link_of links name ≡ None → (s.start ≡ None) ⊎ HasStart ps
     → RefusesStart ps (start_cause links ps (first_name s))
-told links ps s name first lost (inl k) = absurd (unstated s.start name k first)
-told links ps s name first lost (inr has) = refuses links ps s name first lost has
+content links ps s name first lost (inl k) = absurd (unstated s.start name k first)
+content links ps s name first lost (inr has) = refuses links ps s name first lost has
 
 pub unknown_start : UnknownStartsAreRefused
-unknown_start links ps s name h first lost = told links ps s name first lost (after_keeps [] nothing s ps h)
+unknown_start links ps s name h first lost = content links ps s name first lost (after_keeps [] nothing s ps h)

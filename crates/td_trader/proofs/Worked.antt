@@ -7,19 +7,19 @@ use Rattle.td_policy.specs.Stated.{nothing, stated}
 use Rattle.td_policy.specs.Values.{texts}
 use Rattle.td_policy.specs.declared.fault.PolicyFault.{PolicyFault}
 use Rattle.td_policy.specs.declared.stated.Stated.{Stated}
-use Rattle.td_register.specs.Causes.{Cause, given, limit_if, ◌otherwise◌}
-use Rattle.td_register.specs.Named.{known}
+use Rattle.td_register.specs.Causes.{Cause, with_cause, limit_if, ◌otherwise◌}
+use Rattle.td_register.specs.Named.{type_found}
 use Rattle.td_trader.specs.Queries.{desired_cause, first_name, preferred_in, refusal, start_cause, unless_fault}
-use Rattle.td_trader.specs.QueryExamples.{judged, path, printers, three}
+use Rattle.td_trader.specs.QueryExamples.{refusal_of_query, path, printers, three}
 use Rattle.td_register.specs.Registers.{asked_in, no_more}
 
 -- why the query is refused whose policies state this
 unfoldable pub cause_by : (count : ℕ) → Query → Result Stated PolicyFault → Cause
 cause_by count q r =
-    given (known printers.types.types q.service_type) no_more
-    otherwise (given (asked_in q.constraint) no_more
-    otherwise given (preferred_in q.preference) no_more
-    otherwise given (unless_fault r) no_more)
+    with_cause (type_found printers.types.types q.service_type) no_more
+    otherwise (with_cause (asked_in q.constraint) no_more
+    otherwise with_cause (preferred_in q.preference) no_more
+    otherwise with_cause (unless_fault r) no_more)
     otherwise desired_cause q.desired
     otherwise start_cause printers.links q.policies (first_name (result_unwrap_or r nothing))
     otherwise limit_if (nat_le three.begins count)
@@ -31,6 +31,6 @@ path_stated name =
 
 -- with a path of one name
 pub judged-path : (count : ℕ) (q : Query) (name : List ℕ) → q.policies ≡ path name ∷ []
-    → judged count q ≡ cause_by count q (Ok (record nothing { start = Some (name ∷ []) }))
+    → refusal_of_query count q ≡ cause_by count q (Ok (record nothing { start = Some (name ∷ []) }))
 unfolding refusal cause_by
 judged-path count q name is = ap (cause_by count q) (ap stated is ∙ path_stated name)

@@ -4,8 +4,8 @@
 use Rattle.std.specs.Prelude.{List, Option, None, Some}
 use Rattle.std.specs.List.{AllByRecursion}
 use Rattle.td_cdr.specs.Sound.{◌&◌, text}
-use Rattle.td_codes.specs.References.{reference}
-use Rattle.td_codes.specs.declared.reference.Ior.{Ior}
+use Rattle.td_typecode.specs.References.{reference}
+use Rattle.td_typecode.specs.declared.reference.Ior.{Ior}
 use Rattle.td_ops.specs.Calls.{AdmitsCall}
 use Rattle.td_ops.specs.declared.call.Call.TheVariants as call
 use Rattle.td_ops.specs.declared.call.Change.{Change}

@@ -1,6 +1,6 @@
 -- What holds of the beginning of every query.
 use Rattle.std.specs.Prelude.{◌≡◌, ℕ, ◌+◌, ◌^◌, ◌<◌, false, List, [], Some, None, length}
-use Rattle.td_cdr.specs.Marks.{Marks, Holds, Later, Orderly}
+use Rattle.td_cdr.specs.Marks.{Marks, RemembersAs, Later, KeepsLatest}
 use Rattle.td_ops.specs.declared.call.Query.{Query}
 use Rattle.td_policy.specs.Effective.{effective_of}
 use Rattle.td_store.specs.Candidates.{candidates}
@@ -16,7 +16,7 @@ use Rattle.td_changes.specs.declared.bounds.Bounds.{Bounds}
 
 -- Marks as a trader keeps them, with values left of which identifiers can be made.
 pub record AreKept (m : Marks) : Type 0 where
-  pub orderly : Orderly m
+  pub orderly : KeepsLatest m
   pub left : m.counter + length m.kept < 256 ^ 8
 
 -- each query begins in one of four ways
@@ -36,7 +36,7 @@ pub record IsMarkedOnce (m : Marks) (l : Local) (after : Marks) : Type 0 where
   pub served : l.identifier ≡ Some identifier
   pub mark : l.mark ≡ m.count + 1
   pub count : after.count ≡ l.mark
-  pub held : Holds after identifier l.mark
+  pub held : RemembersAs after identifier l.mark
 
 -- and a search marks once
 abbrev pub SearchesMarkOnce : Type 0
@@ -50,7 +50,7 @@ RememberedIsNotMarked =
     (bounds : Bounds) (s : Store) (point : ℕ) (m : Marks) (q : Query) (l : Local)
     (identifier : List ℕ) (number : ℕ)
     → AreKept m → begin_of bounds s point m q ≡ Search l → l.identifier ≡ Some identifier
-    → Holds m identifier number → ⊥
+    → RemembersAs m identifier number → ⊥
 
 -- marks only grow later
 abbrev pub MarksGrowLater : Type 0
@@ -69,7 +69,7 @@ pub record IsServed (s : Store) (point : ℕ) (q : Query) (l : Local) : Type 0 w
   pub preference : l.preference ≡ (parts_of q).preference
 
 -- a search has the store's candidates and its links
-pub record IsSearched (s : Store) (point mark : ℕ) (identifier : List ℕ) (q : Query)
+pub record IsSearchOfStore (s : Store) (point mark : ℕ) (identifier : List ℕ) (q : Query)
     (l : Local) : Type 0 where
   pub mark_is : l.mark ≡ mark
   pub identified : l.identifier ≡ Some identifier
@@ -83,7 +83,7 @@ pub record IsSearched (s : Store) (point mark : ℕ) (identifier : List ℕ) (q 
 abbrev pub SearchesAreServed : Type 0
 SearchesAreServed =
     (s : Store) (point mark : ℕ) (identifier : List ℕ) (q : Query)
-    → IsSearched s point mark identifier q (local_of s point mark identifier q)
+    → IsSearchOfStore s point mark identifier q (local_of s point mark identifier q)
 
 -- a query that is passed on has no mark, no candidates and no links
 pub record IsPassedOn (s : Store) (point : ℕ) (link : LinkRecord) (q : Query)

@@ -22,8 +22,8 @@ uses_of s = record {
 }
 
 -- policies that say this, and nothing else
-abbrev pub stating : Uses → Stated
-stating u = record nothing {
+abbrev pub stated_uses : Uses → Stated
+stated_uses u = record nothing {
   exact = Some u.exact;
   use_proxy = Some u.proxies;
   use_dynamic = Some u.dynamic;
@@ -33,7 +33,7 @@ stating u = record nothing {
 -- the first so many offers that queries for a type search whose policies say this
 abbrev pub searched_by : Store → Uses → (service_type : List ℕ) → (count : ℕ) → List OfferRecord
 searched_by s u service_type count =
-    candidates s.types.types s.attributes (stating u) service_type count s.offers
+    candidates s.types.types s.attributes (stated_uses u) service_type count s.offers
 
 -- ---- what is kept
 

@@ -1,7 +1,7 @@
 -- What a trader may become, and what the acts of its holders make of it.
 use Rattle.std.specs.Prelude.{◌≡◌, ℕ, ◌+◌, ◌≤◌, ◌⊎◌, List, ◌++◌, length, Result, Ok, Err}
-use Rattle.td_cdr.specs.Marks.{Marks, Later, Follows as MarkFollows}
-use Rattle.td_cdr.specs.declared.memory.Memory.{Memory as Wanting}
+use Rattle.td_cdr.specs.Marks.{Marks, Later, IsMarkedFrom as MarkFollows}
+use Rattle.td_cdr.specs.declared.memory.Memory.{Memory as OutOfMemory}
 use Rattle.td_ops.specs.declared.call.Change.{Change}
 use Rattle.td_ops.specs.declared.call.Look.{Look}
 use Rattle.td_ops.specs.declared.call.Query.{Query}
@@ -29,18 +29,18 @@ pub record FollowsWritably (t u : PlainTrader) : Type 0 where
   pub follows : Follows t u
   pub admitted : AreAdmitted follows.more
 
--- what a change answers and leaves; where memory was wanted, all as it was
-abbrev pub ActsChange : PlainTrader → Change → Result Outcome Wanting → PlainTrader → Type 0
+-- what a change answers and leaves; when memory ran out, all as it was
+abbrev pub ActsChange : PlainTrader → Change → Result Outcome OutOfMemory → PlainTrader → Type 0
 ActsChange t c (Ok o) u = (o ≡ outcome_of t c) × (u ≡ after_change t c)
 ActsChange t c (Err e) u = u ≡ t
 
 -- what a look answers and leaves
-abbrev pub ActsLook : PlainTrader → Look → Result (Outcome × ℕ) Wanting → PlainTrader → Type 0
+abbrev pub ActsLook : PlainTrader → Look → Result (Outcome × ℕ) OutOfMemory → PlainTrader → Type 0
 ActsLook t l (Ok a) u = (a ≡ seek (store_of t) l) × (u ≡ t)
 ActsLook t l (Err e) u = u ≡ t
 
 -- how a query begins, and what it leaves
-abbrev pub ActsBegin : PlainTrader → Query → Result Begin Wanting → PlainTrader → Type 0
+abbrev pub ActsBegin : PlainTrader → Query → Result Begin OutOfMemory → PlainTrader → Type 0
 ActsBegin t q (Ok b) u = (b ≡ begin_at t q) × (u ≡ after_begin t q b)
 ActsBegin t q (Err e) u = u ≡ t
 

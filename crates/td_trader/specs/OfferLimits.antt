@@ -29,8 +29,8 @@ pub record HasLimitedOffers (s : Store) : Type 0 where
 -- whatever it is given, a change that is accepted keeps them so
 abbrev pub ChangesKeepLimits : Type 0
 ChangesKeepLimits =
-    (s after : Store) (c : Change) (told : Reply) → HasLimitedOffers s
-    → comes_to s c ≡ Ok (told, after) → HasLimitedOffers after
+    (s after : Store) (c : Change) (content : Reply) → HasLimitedOffers s
+    → comes_to s c ≡ Ok (content, after) → HasLimitedOffers after
 
 -- and so does each history, up to each point
 abbrev pub HistoriesKeepLimits : Type 0

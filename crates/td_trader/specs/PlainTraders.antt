@@ -8,7 +8,7 @@ use Rattle.td_ops.specs.declared.call.Query.{Query}
 use Rattle.td_ops.specs.declared.outcome.Outcome.{Outcome}
 use Rattle.td_ops.specs.declared.outcome.Outcome.TheVariants.{Done, User, System}
 use Rattle.td_trader.specs.Beginning.{begin_of, after_begin as marks_after}
-use Rattle.td_changes.specs.Histories.{Legal, after_all, noted}
+use Rattle.td_changes.specs.Histories.{Legal, after_all, add_accepted}
 use Rattle.td_changes.specs.Laws.{applied_after}
 use Rattle.td_changes.specs.Numbering.{AreNumbered}
 use Rattle.td_register.specs.Registers.{last_number}
@@ -27,8 +27,8 @@ pub record PlainTrader : Type 0 where
   pub marks : Marks
   pub reserved : Bool
 
-abbrev pub opened : (name : List ℕ) → (opening : Store) → Bounds → PlainTrader
-opened name opening bounds = record {
+abbrev pub new_trader : (name : List ℕ) → (opening : Store) → Bounds → PlainTrader
+new_trader name opening bounds = record {
   name = name;
   opening = opening;
   bounds = bounds;
@@ -53,8 +53,8 @@ outcome_of t c = (applied_after t.bounds t.opening t.history c).outcome
 
 -- The trader behind a change with this outcome: an accepted one is the last entry then, in the room that was reserved.
 abbrev pub after_outcome : PlainTrader → Change → Outcome → PlainTrader
-after_outcome t c (Done told) = record t {
-  history = noted t.history c (Done told);
+after_outcome t c (Done content) = record t {
+  history = add_accepted t.history c (Done content);
   reserved = false;
 }
 after_outcome t c (User e) = t
@@ -81,7 +81,8 @@ pub record HasShortReplies (s : Store) : Type 0 where
 -- ---- what is kept
 
 -- The store is the one behind the history, which is legal, and the numbers of its offers were given.
-pub record IsKept (bounds : Bounds) (opening store : Store) (history : List Accepted) : Type 0 where
+pub record IsValidTrader (bounds : Bounds) (opening store : Store) (history : List Accepted) :
+    Type 0 where
   pub behind : store ≡ after_all opening history
   pub legal : Legal bounds opening history
   pub numbered : AreNumbered store

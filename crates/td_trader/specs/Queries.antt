@@ -21,8 +21,8 @@ use Rattle.td_value.specs.declared.unions.SpecifiedProps.{SpecifiedProps}
 use Rattle.td_value.specs.declared.unions.SpecifiedProps.TheVariants as desired
 use Rattle.td_store.specs.LinkLists.{link_of}
 use Rattle.td_store.specs.declared.record.LinkRecord.{LinkRecord}
-use Rattle.td_register.specs.Causes.{Cause, Found, raise, given, limit_if, ◌otherwise◌}
-use Rattle.td_register.specs.Named.{known}
+use Rattle.td_register.specs.Causes.{Cause, OrRefusal, raise, with_cause, limit_if, ◌otherwise◌}
+use Rattle.td_register.specs.Named.{type_found}
 use Rattle.td_register.specs.Properties.{name_cause}
 use Rattle.td_register.specs.Registers.{asked_in, no_more}
 use Rattle.td_register.specs.Stores.{Store}
@@ -33,15 +33,15 @@ use Rattle.td_register.specs.declared.refusal.Refusal.TheVariants.{Raised, Limit
 
 -- ---- its texts and policies
 
-abbrev pub preferred : List ℕ → Result Preference LangFault → Found Preference
-preferred text (Ok p) = Ok p
-preferred text (Err f) = raise (user.IllegalPreference text)
+abbrev pub preference_found : List ℕ → Result Preference LangFault → OrRefusal Preference
+preference_found text (Ok p) = Ok p
+preference_found text (Err f) = raise (user.IllegalPreference text)
 
 -- the preference of a text
-abbrev pub preferred_in : List ℕ → Found Preference
-preferred_in text = preferred text (preference_of text)
+abbrev pub preferred_in : List ℕ → OrRefusal Preference
+preferred_in text = preference_found text (preference_of text)
 
--- As they are defined, policies come to no want of memory (law `policies_come_to_no_want_of_memory` of td_policy), so
+-- As they are defined, policies come to no lack of memory (law `policies_never_run_out_of_memory` of td_policy), so
 -- the last line is never met.
 abbrev pub policy_refusal : PolicyFault → Refusal
 policy_refusal (fault.DuplicatePolicyName name) = Raised (user.DuplicatePolicyName name)
@@ -50,12 +50,12 @@ policy_refusal (fault.PolicyTypeMismatch policy) = Raised (user.PolicyTypeMismat
 policy_refusal (fault.InvalidPolicyValue policy) = Raised (user.InvalidPolicyValue policy)
 policy_refusal fault.Memory = Limit
 
-abbrev pub unless_fault : Result Stated PolicyFault → Found Stated
+abbrev pub unless_fault : Result Stated PolicyFault → OrRefusal Stated
 unless_fault (Ok s) = Ok s
 unless_fault (Err f) = Err (policy_refusal f)
 
 -- what the policies state
-abbrev pub stated_in : List Policy → Found Stated
+abbrev pub stated_in : List Policy → OrRefusal Stated
 stated_in policies = unless_fault (stated policies)
 
 -- What a query says by its texts and its policies. A query is refused where one of these says nothing; this part is
@@ -70,9 +70,9 @@ parts_of q = record {
 -- a text or a policy that says nothing
 abbrev pub parts_cause : Query → Cause
 parts_cause q =
-    given (asked_in q.constraint) no_more
-    otherwise given (preferred_in q.preference) no_more
-    otherwise given (stated_in q.policies) no_more
+    with_cause (asked_in q.constraint) no_more
+    otherwise with_cause (preferred_in q.preference) no_more
+    otherwise with_cause (stated_in q.policies) no_more
 
 -- ---- the properties that it asks for
 
@@ -122,7 +122,7 @@ others_cause bounds count links q s =
 -- why a query is refused at a trader that made so many marks, if it is: the first cause in this order
 unfoldable pub refusal : Bounds → (count : ℕ) → Store → Query → Cause
 refusal bounds count s q =
-    given (known s.types.types q.service_type) no_more
+    with_cause (type_found s.types.types q.service_type) no_more
     otherwise parts_cause q
     otherwise others_cause bounds count s.links q (parts_of q).stated
 

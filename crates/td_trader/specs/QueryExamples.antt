@@ -44,8 +44,8 @@ abbrev pub path : List ℕ → Policy
 path name = policy (texts 64) (codes "starting_trader") (name ∷ [])
 
 -- a policy whose name is none
-abbrev pub misnamed : Policy
-misnamed = policy a_truth (codes "2x") true
+abbrev pub bad_name_policy : Policy
+bad_name_policy = policy a_truth (codes "2x") true
 
-abbrev pub judged : (count : ℕ) → Query → Cause
-judged count q = refusal three count printers q
+abbrev pub refusal_of_query : (count : ℕ) → Query → Cause
+refusal_of_query count q = refusal three count printers q

@@ -25,18 +25,18 @@ abbrev pub solo_view : PlainTrader → View
 solo_view t = view_of t (places 0 t.history) (up_to t.marks.count)
 
 -- others change nothing, and mark nothing
-abbrev pub nothing : List Accepted → Type 0
-nothing between = between ≡ []
+abbrev pub no_changes : List Accepted → Type 0
+no_changes between = between ≡ []
 
-abbrev pub unchanged : Marks → Marks → Type 0
-unchanged before after = after ≡ before
+abbrev pub same_marks : Marks → Marks → Type 0
+same_marks before after = after ≡ before
 
 -- no change is one that can be written
-pub nothing_admitted : (between : List Accepted) → nothing between → AreAdmitted between
+pub nothing_admitted : (between : List Accepted) → no_changes between → AreAdmitted between
 nothing_admitted between none = subst AreAdmitted (sym none) tt
 
 -- marks that stay as they are are later ones
-pub unchanged_later : (a b : Marks) → unchanged a b → Later a b
+pub unchanged_later : (a b : Marks) → same_marks a b → Later a b
 unchanged_later a b e = subst (Later a) (sym e) (later_itself a)
 
 -- no two traders have one name

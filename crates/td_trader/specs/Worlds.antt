@@ -10,7 +10,7 @@ use Rattle.td_ops.specs.declared.outcome.Outcome.{Outcome}
 use Rattle.td_ops.specs.declared.outcome.Outcome.TheVariants.{Done, User, System}
 use Rattle.td_changes.specs.Applying.{seek}
 use Rattle.td_trader.specs.Beginning.{begin_of, after_begin as marks_after}
-use Rattle.td_changes.specs.Histories.{Legal, LegalFrom, after_all, noted}
+use Rattle.td_changes.specs.Histories.{Legal, LegalFrom, after_all, add_accepted}
 use Rattle.td_changes.specs.Laws.{applied_after}
 use Rattle.td_trader.specs.OfferLimits.{HasLimitedOffers}
 use Rattle.td_trader.specs.PlainTraders.{HasShortReplies, PlainTrader}
@@ -89,8 +89,8 @@ after_others v between marks = record v { history = v.history ++ between; marks 
 
 -- one's own change had this outcome
 abbrev pub after_own : View → Change → Outcome → View
-after_own v c (Done told) = record v {
-  history = noted v.history c (Done told);
+after_own v c (Done content) = record v {
+  history = add_accepted v.history c (Done content);
   own = v.own ++ length v.history ∷ [];
 }
 after_own v c (User e) = v
@@ -122,7 +122,7 @@ module _ (others : List Accepted → Type 0) (later : Marks → Marks → Type 0
     pub seen_is : seen ≡ after_others view between marks
 
   -- The outcome is the change's at what is seen then, and an accepted change stands at the end.
-  pub record Changes (w : List View) (k : ℕ) (c : Change) (o : Outcome)
+  pub record ChangesTrader (w : List View) (k : ℕ) (c : Change) (o : Outcome)
       (u : List View) : Type 0 where
     pub seen : View
     pub meanwhile : Meanwhile w k seen
@@ -130,7 +130,7 @@ module _ (others : List Accepted → Type 0) (later : Marks → Marks → Type 0
     pub world : u ≡ with_view w k (after_own seen c o)
 
   -- The answer is the look's at the store that is seen then.
-  pub record Looks (w : List View) (k : ℕ) (l : Look) (a : Outcome × ℕ)
+  pub record LooksAtTrader (w : List View) (k : ℕ) (l : Look) (a : Outcome × ℕ)
       (u : List View) : Type 0 where
     pub seen : View
     pub meanwhile : Meanwhile w k seen
@@ -139,7 +139,8 @@ module _ (others : List Accepted → Type 0) (later : Marks → Marks → Type 0
 
   -- The query begins as it does at what is seen then, where the offers are within their limits, and a mark that is made
   -- is one's own.
-  pub record Begun (w : List View) (k : ℕ) (q : Query) (b : Begin) (u : List View) : Type 0 where
+  pub record BeginsQuery (w : List View) (k : ℕ) (q : Query) (b : Begin) (u : List View) :
+      Type 0 where
     pub seen : View
     pub meanwhile : Meanwhile w k seen
     pub begin : b ≡ begin_of seen.bounds (store_seen seen) (length seen.history) seen.marks q

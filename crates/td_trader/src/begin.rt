@@ -3,11 +3,12 @@
 ghost use Rattle.std.specs.Prelude.{◌≡◌, ◌+◌, ◌<◌, ◌≤◌, ◌^◌, None, IfOk, OnErr, option_copied};
 ghost use Rattle.td_cdr.specs.Marks.{remembered};
 ghost use Rattle.td_marks.specs.Keeping.{most_kept};
-ghost use Rattle.td_trader.specs.Beginning.{after_begin, begin_along, begin_here, begin_of, identified, repeated_in};
+ghost use Rattle.td_trader.specs.Beginning.{after_begin, begin_along, begin_here, begin_of, query_identifier};
+ghost use Rattle.td_trader.specs.Beginning.{repeated_in};
 ghost use Rattle.td_trader.specs.Beginning.{searched_under};
 ghost use Rattle.td_trader.specs.Caching.{IsCacheOf};
 ghost use Rattle.td_trader.specs.Queries.{parts_of, path_link};
-ghost use Rattle.td_register.specs.Causes.{refused};
+ghost use Rattle.td_register.specs.Causes.{refusal_outcome};
 ghost use Rattle.td_trader.specs.Serving.{local_of};
 ghost use Rattle.td_trader.specs.declared.begin.Begin.TheVariants as way;
 
@@ -20,7 +21,7 @@ use td_changes::Bounds;
 use td_marks::{Made, Ring};
 use td_ops::{Outcome, Query};
 use td_policy::Stated;
-use td_register::{Fault, Refusal, refused};
+use td_register::{Fault, Refusal, refusal_outcome};
 use td_store::{LinkRecord, Links, Local, Store};
 
 /// How a query begins at one trader.
@@ -41,7 +42,7 @@ pub enum Begin {
 ///
 /// # Errors
 ///
-/// `Memory` for want of memory alone; nothing is marked then.
+/// `Memory` only when out of memory; nothing is marked then.
 #[tactic(auto, using(crate::proofs::Cached::nothing_kept))]
 pub fn begin_query(
     alloc: Global,
@@ -65,7 +66,7 @@ pub fn begin_query(
 ///
 /// # Errors
 ///
-/// `Memory` for want of memory alone; nothing is marked then.
+/// `Memory` only when out of memory; nothing is marked then.
 #[tactic(auto, unfolding(crate::specs::Beginning::begin_of, crate::specs::Beginning::after_begin))]
 pub(crate) fn begin_cached(
     alloc: Global,
@@ -92,9 +93,9 @@ pub(crate) fn begin_cached(
 
 /// Begins a query that is refused.
 fn refuse(alloc: Global, refusal: Refusal) -> Result<Begin, Memory>
-    ensures { IfOk result (λ b. b ≡ way.Refused (refused refusal)) }
+    ensures { IfOk result (λ b. b ≡ way.Refused (refusal_outcome refusal)) }
 {
-    let outcome = Boxed::new(alloc, refused(refusal))?;
+    let outcome = Boxed::new(alloc, refusal_outcome(refusal))?;
     Ok(Begin::Refused(outcome))
 }
 
@@ -211,7 +212,8 @@ fn begin_search(
 fn identify(alloc: Global, ring: &Ring, stem: &Octets, stated: &Stated) -> Result<Made, Memory>
     requires few { ring.now.count ≤ 2 ^ 40 }
     requires fresh { repeated_in ring.now stated.now ≡ None }
-    ensures made { IfOk result (λ made. made ≡ identified ring.now stem.now stated.now.request_id) }
+    ensures made { IfOk result (λ made. made
+        ≡ query_identifier ring.now stem.now stated.now.request_id) }
     ensures fresh { IfOk result (λ made. remembered ring.now made.identifier ≡ None) }
     ensures up { IfOk result (λ made. ring.now.counter ≤ made.counter) }
     ensures near { IfOk result (λ made. made.counter ≤ ring.now.counter + most_kept + 1) }

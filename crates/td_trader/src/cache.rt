@@ -88,7 +88,7 @@ fn owner<T>(alloc: Global, shared: &Shared<T>) -> Option<Shared<T>>
 ///
 /// # Errors
 ///
-/// `Memory` for want of memory alone.
+/// `Memory` only when out of memory.
 pub(crate) fn share<T: Twin + Drop>(
     alloc: Global,
     value: &T,
@@ -112,7 +112,7 @@ pub(crate) fn share<T: Twin + Drop>(
 ///
 /// # Errors
 ///
-/// `Memory` for want of memory alone.
+/// `Memory` only when out of memory.
 pub(crate) fn share_links(
     alloc: Global,
     links: &Links,

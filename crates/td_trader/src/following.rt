@@ -9,7 +9,7 @@ ghost use Rattle.td_ops.specs.declared.call.Query.{Query};
 ghost use Rattle.td_ops.specs.declared.outcome.Outcome.{Outcome};
 ghost use Rattle.td_ops.specs.declared.outcome.Outcome.TheVariants as outcome;
 ghost use Rattle.td_ops.specs.declared.outcome.Reply.{Reply};
-ghost use Rattle.td_marks.specs.Keeping.{IsKept as AreMarks};
+ghost use Rattle.td_marks.specs.Keeping.{AreRingMarks as AreMarks};
 ghost use Rattle.td_trader.specs.Admitted.{AdmitsChange};
 ghost use Rattle.td_trader.specs.Following.{ActsBegin, ActsChange, ActsLook, ActsOnce, BeginsOnce, Follows};
 ghost use Rattle.td_trader.specs.Following.{FollowsWritably};
@@ -21,9 +21,9 @@ ghost use Rattle.td_trader.specs.declared.begin.Begin.{Begin};
 /// An accepted change is the entry at the point where it was made, and a refused one leaves the trader as it
 /// was. The history stays legal, and the store behind it is the one that the change leaves.
 pub fn changes_are_recorded()
-    ensures accepted { (t : PlainTrader) (c : Change) (told : Reply)
-        → Legal t.bounds t.opening t.history → outcome_of t c ≡ outcome.Done told
-        → StandsAt (after_change t c).history (length t.history) c told }
+    ensures accepted { (t : PlainTrader) (c : Change) (content : Reply)
+        → Legal t.bounds t.opening t.history → outcome_of t c ≡ outcome.Done content
+        → StandsAt (after_change t c).history (length t.history) c content }
     ensures refused { (t : PlainTrader) (c : Change) → is_done (outcome_of t c) ≡ false
         → after_change t c ≡ t }
     ensures legal { (t : PlainTrader) (c : Change) → Legal t.bounds t.opening t.history →

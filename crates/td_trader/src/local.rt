@@ -25,7 +25,7 @@ use td_store::{LinkRecord, Local, OfferRecord, Steps, Store};
 ///
 /// # Errors
 ///
-/// `Memory` for want of memory alone.
+/// `Memory` only when out of memory.
 #[tactic(auto, unfolding(crate::specs::Serving::local_of))]
 pub(crate) fn search_cached(
     alloc: Global,
@@ -61,7 +61,7 @@ pub(crate) fn search_cached(
 ///
 /// # Errors
 ///
-/// `Memory` for want of memory alone.
+/// `Memory` only when out of memory.
 #[tactic(auto, using(crate::proofs::Cached::nothing_kept))]
 pub fn search_local(
     alloc: Global,
@@ -95,7 +95,7 @@ pub fn search_local(
 ///
 /// # Errors
 ///
-/// `Memory` for want of memory alone.
+/// `Memory` only when out of memory.
 #[tactic(auto, unfolding(crate::specs::Serving::path_of))]
 pub(crate) fn path_cached(
     alloc: Global,
@@ -133,7 +133,7 @@ pub(crate) fn path_cached(
 ///
 /// # Errors
 ///
-/// `Memory` for want of memory alone.
+/// `Memory` only when out of memory.
 #[tactic(auto, using(crate::proofs::Cached::nothing_kept))]
 pub fn path_local(
     alloc: Global,

@@ -6,13 +6,13 @@ ghost use Rattle.td_exceptions.specs.declared.exception.UserException.TheVariant
 ghost use Rattle.td_policy.specs.Faults.{is_memory};
 ghost use Rattle.td_policy.specs.declared.fault.PolicyFault.{PolicyFault as Bad};
 ghost use Rattle.td_policy.specs.declared.stated.Stated.{Stated as Said};
-ghost use Rattle.td_register.specs.Causes.{◌otherwise◌, given, limit_if};
-ghost use Rattle.td_register.specs.Judged.{IsAbsent, Judges};
-ghost use Rattle.td_register.specs.Named.{known};
+ghost use Rattle.td_register.specs.Causes.{◌otherwise◌, with_cause, limit_if};
+ghost use Rattle.td_register.specs.Judged.{IsAbsent, IsFirstCause};
+ghost use Rattle.td_register.specs.Named.{type_found};
 ghost use Rattle.td_trader.specs.Queries.{desired_cause, first_name, link_cause, names_cause, others_cause};
 ghost use Rattle.td_trader.specs.Queries.{parts_cause, parts_of, preferred_in, refusal, start_cause, start_policy};
 ghost use Rattle.td_trader.specs.Queries.{stated_in, unless_fault};
-ghost use Rattle.td_trader.specs.Reading.{IsRaised, Reads};
+ghost use Rattle.td_trader.specs.Reading.{IsRaised, ReadsOrFaults};
 ghost use Rattle.td_register.specs.Registers.{asked_in, no_more};
 
 use std::alloc::Global;
@@ -43,7 +43,7 @@ pub struct Parts {
 /// policy by policy `IllegalPolicyName`, `DuplicatePolicyName`, `PolicyTypeMismatch`,
 /// `InvalidPolicyValue`; by desired name `IllegalPropertyName`, `DuplicatePropertyName`;
 /// `InvalidPolicyValue` where no link has the first name of starting_trader; `Limit` where as many
-/// marks were made as may be. `Memory` for want of memory.
+/// marks were made as may be. `Memory` when out of memory.
 #[tactic(auto, unfolding(crate::specs::Queries::refusal))]
 pub fn judge(
     alloc: Global,
@@ -52,7 +52,7 @@ pub fn judge(
     store: &Store,
     query: &Query,
 ) -> Result<Parts, Fault>
-    ensures { Reads (refusal bounds.now count store.now query.now)
+    ensures { ReadsOrFaults (refusal bounds.now count store.now query.now)
         (λ parts. parts ≡ parts_of query.now) result }
 {
     check_type(alloc, &store.types, &query.service_type)?;
@@ -68,7 +68,7 @@ pub fn judge(
 
 /// Refuses a name that no type has.
 fn check_type(alloc: Global, types: &Types, name: &Text) -> Result<(), Fault>
-    ensures { Judges (given (known types.now.types name.now) no_more) result }
+    ensures { IsFirstCause (with_cause (type_found types.now.types name.now) no_more) result }
 {
     if !is_word_name(name.as_slice()) {
         return Err(raised(UserException::IllegalServiceType {
@@ -87,7 +87,7 @@ fn check_type(alloc: Global, types: &Types, name: &Text) -> Result<(), Fault>
 
 /// What a query says by its texts and its policies.
 fn read_parts(alloc: Global, query: &Query) -> Result<Parts, Fault>
-    ensures { Reads (parts_cause query.now) (λ parts. parts ≡ parts_of query.now) result }
+    ensures { ReadsOrFaults (parts_cause query.now) (λ parts. parts ≡ parts_of query.now) result }
 {
     let constraint = read_asked(alloc, &query.constraint)?;
     match read_preferred_and_stated(alloc, query) {
@@ -104,7 +104,8 @@ fn read_parts(alloc: Global, query: &Query) -> Result<Parts, Fault>
 }
 
 fn read_preferred_and_stated(alloc: Global, query: &Query) -> Result<(Preference, Stated), Fault>
-    ensures { Reads (given (preferred_in query.now.preference) no_more otherwise given
+    ensures { ReadsOrFaults (with_cause (preferred_in query.now.preference) no_more otherwise
+        with_cause
         (stated_in query.now.policies) no_more) (λ p. (p.0 ≡ (parts_of query.now).preference)
         × (p.1 ≡ (parts_of query.now).stated)) result }
 {
@@ -207,7 +208,7 @@ fn check_others(
     query: &Query,
     stated: &Stated,
 ) -> Result<(), Fault>
-    ensures { Judges (others_cause bounds.now count links.now query.now stated.now) result }
+    ensures { IsFirstCause (others_cause bounds.now count links.now query.now stated.now) result }
 {
     check_desired(alloc, &query.desired)?;
     check_start(alloc, links, query.policies.as_slice(), stated)?;
@@ -216,7 +217,7 @@ fn check_others(
 
 /// Refuses desired names that are none, or that stand twice.
 fn check_desired(alloc: Global, desired: &Desired) -> Result<(), Fault>
-    ensures { Judges (desired_cause desired.now) result }
+    ensures { IsFirstCause (desired_cause desired.now) result }
 {
     match desired {
         Desired::None => Ok(()),
@@ -227,7 +228,7 @@ fn check_desired(alloc: Global, desired: &Desired) -> Result<(), Fault>
 
 /// Refuses the first name that is none, or that stands before.
 fn check_names(alloc: Global, names: &[Text]) -> Result<(), Fault>
-    ensures { Judges (names_cause [] names.now) result }
+    ensures { IsFirstCause (names_cause [] names.now) result }
 {
     let mut seen = nothing_seen(alloc);
     for name in names {
@@ -252,7 +253,7 @@ fn check_start(
     policies: &[Policy],
     stated: &Stated,
 ) -> Result<(), Fault>
-    ensures { Judges (start_cause links.now policies.now (first_name stated.now)) result }
+    ensures { IsFirstCause (start_cause links.now policies.now (first_name stated.now)) result }
 {
     let Some(name) = first_name(stated) else {
         return Ok(());
@@ -275,7 +276,7 @@ pub(crate) fn first_name(stated: &Stated) -> Option<&Text>
 
 /// Refuses starting_trader, as it is stated.
 fn refuse_start(alloc: Global, policies: &[Policy]) -> Result<(), Fault>
-    ensures { Judges (link_cause policies.now None) result }
+    ensures { IsFirstCause (link_cause policies.now None) result }
 {
     match start_policy(policies) {
         None => Ok(()),
@@ -299,7 +300,7 @@ fn start_policy(policies: &[Policy]) -> Option<&Policy>
 
 /// Refuses one mark more than may be.
 fn check_count(bounds: &Bounds, count: u64) -> Result<(), Fault>
-    ensures { Judges (limit_if (nat_le bounds.now.begins count)) result }
+    ensures { IsFirstCause (limit_if (nat_le bounds.now.begins count)) result }
 {
     if bounds.begins <= count {
         return Err(Fault::Refused(Refusal::Limit));

@@ -2,7 +2,8 @@
 
 ghost use Rattle.std.proofs.Props.{props};
 ghost use Rattle.std.specs.Prelude.{map};
-ghost use Rattle.td_trader.specs.Solos.{AreDistinct, nothing, nothing_admitted, solo_view, unchanged, unchanged_later};
+ghost use Rattle.td_trader.specs.Solos.{AreDistinct, no_changes, nothing_admitted, solo_view, same_marks};
+ghost use Rattle.td_trader.specs.Solos.{unchanged_later};
 
 use crate::begin::Begin;
 use crate::trader::Trader;
@@ -20,9 +21,9 @@ pub struct Solo {
 impl Traders for Solo {
     ghost world = { λ s. map solo_view s.traders.items };
 
-    ghost others = { nothing };
+    ghost others = { no_changes };
 
-    ghost later = { unchanged };
+    ghost later = { same_marks };
 
     ghost same = { λ a b. Unit {0} };
 

@@ -1,15 +1,15 @@
 //! One trader: its store, and the history that leads to it.
 
 ghost use Rattle.std.specs.Prelude.{◌≡◌, ◌≤◌, ◌<◌, true, false, length, vec_len, vec_capacity, IfOk, OnOk, OnErr, IsOk};
-ghost use Rattle.td_cdr.specs.Marks.{Orderly};
-ghost use Rattle.td_marks.specs.Keeping.{IsKept as AreMarks};
+ghost use Rattle.td_cdr.specs.Marks.{KeepsLatest};
+ghost use Rattle.td_marks.specs.Keeping.{AreRingMarks as AreMarks};
 ghost use Rattle.td_changes.specs.Applying.{apply_counted, is_at_limit, is_free, seek};
 ghost use Rattle.td_changes.specs.Histories.{Legal};
 ghost use Rattle.td_changes.specs.Numbering.{AreNumbered};
 ghost use Rattle.td_trader.specs.Caching.{IsCacheOf};
 ghost use Rattle.td_trader.specs.OfferLimits.{HasLimitedOffers};
 ghost use Rattle.td_trader.specs.PlainTraders.{AreBounds, HasShortReplies, after_begin, after_change, begin_at};
-ghost use Rattle.td_trader.specs.PlainTraders.{opened, outcome_of, store_of};
+ghost use Rattle.td_trader.specs.PlainTraders.{new_trader, outcome_of, store_of};
 ghost use Rattle.td_changes.specs.Recording.{HasRoom, Records};
 
 use crate::begin::{Begin, begin_cached};
@@ -18,7 +18,7 @@ use std::alloc::Global;
 use std::marker::Model;
 use std::snapshot::Snapshot;
 use td_cdr::{Memory, Octets, Shared, Text};
-use td_changes::{Bounds, MOST_CHANGES, acceptance, not_done, perform, seek};
+use td_changes::{Bounds, MOST_CHANGES, acceptance, apply_change, not_done, seek};
 use td_marks::Ring;
 use td_ops::{Change, Look, Outcome, Query};
 use td_register::Accepted;
@@ -60,11 +60,11 @@ impl Drop for Trader {
 impl Model for Trader {
     ghost use Rattle.std.specs.Prelude.{◌≡◌, vec_len, vec_capacity};
     ghost use Rattle.std.specs.Coded.{codes};
-    ghost use Rattle.td_codes.specs.contracts.code.TypeCode as code;
-    ghost use Rattle.td_codes.specs.contracts.code.Value as value;
+    ghost use Rattle.td_typecode.specs.contracts.code.TypeCode as code;
+    ghost use Rattle.td_typecode.specs.contracts.code.Value as value;
     ghost use Rattle.td_trader.specs.Caching.{IsCacheOf};
     ghost use Rattle.td_trader.specs.OfferLimits.{HasLimitedOffers};
-    ghost use Rattle.td_trader.specs.PlainTraders.{AreBounds, HasShortReplies, IsKept, PlainTrader};
+    ghost use Rattle.td_trader.specs.PlainTraders.{AreBounds, HasShortReplies, IsValidTrader, PlainTrader};
     ghost use Rattle.td_changes.specs.Recording.{HasRoom};
 
     ghost Value = { PlainTrader };
@@ -81,7 +81,7 @@ impl Model for Trader {
     } };
 
     ghost invariant = { λ t. AreBounds t.bounds
-        × IsKept t.bounds t.opening.value t.store t.history.items
+        × IsValidTrader t.bounds t.opening.value t.store t.history.items
         × HasRoom t.reserved (vec_len t.history) (vec_capacity t.history)
         × HasShortReplies t.opening.value
         × HasLimitedOffers t.opening.value × IsCacheOf t.store t.cache };
@@ -92,7 +92,7 @@ impl Trader {
     ///
     /// # Errors
     ///
-    /// `Memory` for want of memory alone.
+    /// `Memory` only when out of memory.
     pub fn new(
         alloc: Global,
         name: Text,
@@ -105,7 +105,7 @@ impl Trader {
         requires limited { HasLimitedOffers opening }
         // It is the opening store's own.
         requires stem { (stem ≡ opening.attributes.request_id_stem) × (length stem ≤ 64) }
-        ensures { IfOk result (λ t. t ≡ opened name opening bounds) }
+        ensures { IfOk result (λ t. t ≡ new_trader name opening bounds) }
     {
         drop(stem);
         let history = Vec::new(alloc);
@@ -163,7 +163,7 @@ impl Trader {
     /// How many marks were made. Takes no memory.
     pub fn marks(&self) -> u64
         ensures count { result ≡ self.now.marks.count }
-        ensures orderly { Orderly self.now.marks }
+        ensures orderly { KeepsLatest self.now.marks }
         ensures kept { AreMarks self.now.marks }
         ensures bounds { AreBounds self.now.bounds }
     {
@@ -175,7 +175,7 @@ impl Trader {
     ///
     /// # Errors
     ///
-    /// `Memory` for want of memory alone.
+    /// `Memory` only when out of memory.
     pub fn look(&self, l: &Look) -> Result<(Outcome, u32), Memory>
         ensures { IfOk result (λ a. a ≡ seek (store_of self.now) l.now) }
     {
@@ -186,7 +186,7 @@ impl Trader {
     ///
     /// # Errors
     ///
-    /// `Memory` for want of memory alone. The trader is then as it was.
+    /// `Memory` only when out of memory. The trader is then as it was.
     pub fn reserve_change(&mut self) -> Result<(), Memory>
         ensures ok { OnOk result (self.new ≡ record self.old { reserved = true }) }
         ensures err { OnErr result (self.new ≡ self.old) }
@@ -201,7 +201,7 @@ impl Trader {
     ///
     /// # Errors
     ///
-    /// `Memory` for want of memory alone; never for a change that takes none, where room was reserved. The
+    /// `Memory` only when out of memory; never for a change that takes none, where room was reserved. The
     /// trader is then as it was.
     pub fn change(&mut self, c: Change) -> Result<Outcome, Memory>
         ensures outcome { IfOk result (λ o. o ≡ outcome_of self.old c) }
@@ -226,7 +226,7 @@ impl Trader {
     ///
     /// # Errors
     ///
-    /// `Memory` for want of memory alone. The trader is then as it was.
+    /// `Memory` only when out of memory. The trader is then as it was.
     pub fn begin(&mut self, q: &Shared<Query>) -> Result<Begin, Memory>
         ensures begin { IfOk result (λ b. b ≡ begin_at self.old q.now) }
         ensures limited { HasLimitedOffers (store_of self.old) }
@@ -277,16 +277,16 @@ fn record_change(
 {
     history.reserve(1)?;
     let full = is_at_limit(bounds, history.len());
-    let told = acceptance(alloc, store, &c)?;
-    match perform(alloc, store, full, c) {
+    let content = acceptance(alloc, store, &c)?;
+    match apply_change(alloc, store, full, c) {
         Ok(accepted) => {
             history.push_reserved(accepted);
             *reserved = false;
             *cache = Cache::new();
-            Ok(Outcome::Done(told))
+            Ok(Outcome::Done(content))
         }
         Err(fault) => {
-            drop(told);
+            drop(content);
             not_done(fault)
         }
     }

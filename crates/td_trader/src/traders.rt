@@ -5,7 +5,7 @@ ghost use Rattle.std.specs.List.{IsDistinct};
 ghost use Rattle.std.specs.Str.{bytes_eq};
 ghost use Rattle.td_cdr.specs.Marks.{Later, Marks};
 ghost use Rattle.td_trader.specs.Admitted.{AdmitsChange, AreAdmitted};
-ghost use Rattle.td_trader.specs.Worlds.{AdmittedAt, Begun, Changes, LegalAt, Looks, View, Watches};
+ghost use Rattle.td_trader.specs.Worlds.{AdmittedAt, BeginsQuery, ChangesTrader, LegalAt, LooksAtTrader, View, Watches};
 ghost use Rattle.td_trader.specs.Worlds.{history_at, name_at};
 ghost use Rattle.td_register.specs.declared.history.Accepted.{Accepted};
 
@@ -42,14 +42,14 @@ pub trait Traders {
     ///
     /// # Errors
     ///
-    /// `Memory` for want of memory alone; the change isn't made then.
+    /// `Memory` only when out of memory; the change isn't made then.
     fn change(&mut self, trader: usize, c: Change) -> Result<Outcome, Memory>
         requires trader { trader < length (world self.old) }
         // Its values can be written, as those of a call that was read.
         requires admitted { AdmitsChange c }
         ensures same { same self.old self.new }
         ensures ok { IfOk result
-            (λ o. Changes others later (world self.old) trader c o (world self.new)) }
+            (λ o. ChangesTrader others later (world self.old) trader c o (world self.new)) }
         ensures err { OnErr result
             (Watches others later (world self.old) trader (world self.new)) };
 
@@ -57,12 +57,12 @@ pub trait Traders {
     ///
     /// # Errors
     ///
-    /// `Memory` for want of memory alone.
+    /// `Memory` only when out of memory.
     fn look(&mut self, trader: usize, l: &Look) -> Result<(Outcome, u32), Memory>
         requires { trader < length (world self.old) }
         ensures same { same self.old self.new }
         ensures ok { IfOk result
-            (λ a. Looks others later (world self.old) trader l.now a (world self.new)) }
+            (λ a. LooksAtTrader others later (world self.old) trader l.now a (world self.new)) }
         ensures err { OnErr result
             (Watches others later (world self.old) trader (world self.new)) };
 
@@ -70,12 +70,12 @@ pub trait Traders {
     ///
     /// # Errors
     ///
-    /// `Memory` for want of memory alone; nothing is marked then.
+    /// `Memory` only when out of memory; nothing is marked then.
     fn begin(&mut self, trader: usize, q: &Shared<Query>) -> Result<Begin, Memory>
         requires { trader < length (world self.old) }
         ensures same { same self.old self.new }
         ensures ok { IfOk result
-            (λ b. Begun others later (world self.old) trader q.now b (world self.new)) }
+            (λ b. BeginsQuery others later (world self.old) trader q.now b (world self.new)) }
         ensures err { OnErr result
             (Watches others later (world self.old) trader (world self.new)) };
 

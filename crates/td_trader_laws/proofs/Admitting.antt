@@ -13,7 +13,8 @@ use Rattle.td_ops.specs.Answers.{AdmitsOutcome}
 use Rattle.td_ops.specs.declared.operation.Operation.{Operation}
 use Rattle.td_ops.specs.declared.outcome.Outcome.TheVariants.{Done}
 use Rattle.td_ops.specs.declared.outcome.Reply.{Reply}
-use Rattle.td_register.specs.Causes.{Cause, Comes, Found, applied, given, limit_if, raise_if, refused, tells, there}
+use Rattle.td_register.specs.Causes.{Cause, ChangeResult, OrRefusal, effect_of, with_cause, limit_if, raise_if}
+use Rattle.td_register.specs.Causes.{refusal_outcome, tells, there}
 use Rattle.td_register.specs.Causes.{unless, unless_full, unless_supported, ◌otherwise◌}
 use Rattle.td_register.specs.Stores.{Store}
 use Rattle.td_register.specs.declared.refusal.Refusal.{Refusal}
@@ -31,7 +32,7 @@ AdmitsRefusal (Raised e) = AdmitsException e
 AdmitsRefusal NotSupported = Unit {0}
 AdmitsRefusal Limit = Unit {0}
 
-pub refused-admitted : (o : Operation) (f : Refusal) → AdmitsRefusal f → AdmitsOutcome o (refused f)
+pub refused-admitted : (o : Operation) (f : Refusal) → AdmitsRefusal f → AdmitsOutcome o (refusal_outcome f)
 refused-admitted o (Raised e) h = h
 refused-admitted o NotSupported h = (omega arith, omega arith)
 refused-admitted o Limit h = (omega arith, omega arith)
@@ -60,12 +61,12 @@ supported false = tt
 
 -- ---- what is looked for
 
-abbrev pub AdmitsFound : {X : Type 0} → (X → Type 0) → Found X → Type 0
+abbrev pub AdmitsFound : {X : Type 0} → (X → Type 0) → OrRefusal X → Type 0
 AdmitsFound P (Ok x) = P x
 AdmitsFound P (Err f) = AdmitsRefusal f
 
-pub given-admitted : {X : Type 0} (P : X → Type 0) (found : Found X) (cause : X → Cause) → AdmitsFound P found
-    → ((x : X) → P x → AdmitsCause (cause x)) → AdmitsCause (given found cause)
+pub given-admitted : {X : Type 0} (P : X → Type 0) (found : OrRefusal X) (cause : X → Cause) → AdmitsFound P found
+    → ((x : X) → P x → AdmitsCause (cause x)) → AdmitsCause (with_cause found cause)
 given-admitted P (Ok x) cause h k = k x h
 given-admitted P (Err f) cause h k = h
 
@@ -74,49 +75,49 @@ pub there-admitted : {X : Type 0} (P : X → Type 0) (o : Option X) (e : UserExc
 there-admitted P None e h k = h
 there-admitted P (Some x) e h k = k x refl
 
-pub found-when : {X : Type 0} (P : X → Type 0) (b : Bool) (a c : Found X) → AdmitsFound P a → AdmitsFound P c
+pub found-when : {X : Type 0} (P : X → Type 0) (b : Bool) (a c : OrRefusal X) → AdmitsFound P a → AdmitsFound P c
     → AdmitsFound P (cond b a c)
 found-when P true a c h k = h
 found-when P false a c h k = k
 
-pub tells-admitted : {X : Type 0} (o : Operation) (P : X → Type 0) (found : Found X) (told : X → Reply)
-    → AdmitsFound P found → ((x : X) → P x → AdmitsOutcome o (Done (told x))) → AdmitsOutcome o (tells found told)
-tells-admitted o P (Ok x) told h k = k x h
-tells-admitted o P (Err f) told h k = refused-admitted o f h
+pub tells-admitted : {X : Type 0} (o : Operation) (P : X → Type 0) (found : OrRefusal X) (content : X → Reply)
+    → AdmitsFound P found → ((x : X) → P x → AdmitsOutcome o (Done (content x))) → AdmitsOutcome o (tells found content)
+tells-admitted o P (Ok x) content h k = k x h
+tells-admitted o P (Err f) content h k = refused-admitted o f h
 
 -- ---- what a change comes to
 
-abbrev pub AdmitsComes : Operation → Comes → Type 0
+abbrev pub AdmitsComes : Operation → ChangeResult → Type 0
 AdmitsComes o (Ok a) = AdmitsOutcome o (Done a.0) × IsWritableStore a.1
 AdmitsComes o (Err f) = AdmitsRefusal f
 
-pub came : (o : Operation) (cause : Cause) (told : Reply) (after : Store) → AdmitsCause cause
-    → AdmitsOutcome o (Done told) → (cause ≡ None → IsWritableStore after) → AdmitsComes o (unless cause told after)
-came o None told after h r k = (r, k refl)
-came o (Some f) told after h r k = h
+pub came : (o : Operation) (cause : Cause) (content : Reply) (after : Store) → AdmitsCause cause
+    → AdmitsOutcome o (Done content) → (cause ≡ None → IsWritableStore after) → AdmitsComes o (unless cause content after)
+came o None content after h r k = (r, k refl)
+came o (Some f) content after h r k = h
 
 -- the same, where the reply can be written since nothing is at fault
-pub came-with : (o : Operation) (cause : Cause) (told : Reply) (after : Store) → AdmitsCause cause
-    → (cause ≡ None → AdmitsOutcome o (Done told) × IsWritableStore after) → AdmitsComes o (unless cause told after)
-came-with o None told after h k = k refl
-came-with o (Some f) told after h k = h
+pub came-with : (o : Operation) (cause : Cause) (content : Reply) (after : Store) → AdmitsCause cause
+    → (cause ≡ None → AdmitsOutcome o (Done content) × IsWritableStore after) → AdmitsComes o (unless cause content after)
+came-with o None content after h k = k refl
+came-with o (Some f) content after h k = h
 
-pub applied-outcome : (o : Operation) (s : Store) (r : Comes) → AdmitsComes o r
-    → AdmitsOutcome o (applied s r).outcome
+pub applied-outcome : (o : Operation) (s : Store) (r : ChangeResult) → AdmitsComes o r
+    → AdmitsOutcome o (effect_of s r).outcome
 applied-outcome o s (Ok a) h = h.0
 applied-outcome o s (Err f) h = refused-admitted o f h
 
-pub applied-store : (o : Operation) (s : Store) (r : Comes) → IsWritableStore s → AdmitsComes o r
-    → IsWritableStore (applied s r).store
+pub applied-store : (o : Operation) (s : Store) (r : ChangeResult) → IsWritableStore s → AdmitsComes o r
+    → IsWritableStore (effect_of s r).store
 applied-store o s (Ok a) w h = h.1
 applied-store o s (Err f) w h = w
 
 -- the same where no more changes are accepted
-pub counted-admitted : (o : Operation) (full : Bool) (cause : Cause) (told : Reply) (after : Store)
-    → AdmitsComes o (unless cause told after) → AdmitsComes o (unless_full full cause told after)
-counted-admitted o true None told after h = tt
-counted-admitted o false None told after h = h
-counted-admitted o full (Some f) told after h = h
+pub counted-admitted : (o : Operation) (full : Bool) (cause : Cause) (content : Reply) (after : Store)
+    → AdmitsComes o (unless cause content after) → AdmitsComes o (unless_full full cause content after)
+counted-admitted o true None content after h = tt
+counted-admitted o false None content after h = h
+counted-admitted o full (Some f) content after h = h
 
 -- ---- values that can always be written
 

@@ -1,9 +1,9 @@
 -- Attributes: what their changes come to can be written.
 use Rattle.std.proofs.Common.{◌≡◌, ℕ, Bool, List, [], ◌∷◌, length, nat_lt, refl, subst, sym}
 use Rattle.std.specs.List.{AllByRecursion}
-use Rattle.td_codes.specs.declared.reference.Ior.{Ior}
+use Rattle.td_typecode.specs.declared.reference.Ior.{Ior}
 use Rattle.td_cdr.specs.Sound.{ulong}
-use Rattle.td_codes.specs.References.{reference}
+use Rattle.td_typecode.specs.References.{reference}
 use Rattle.td_ops.specs.declared.attribute.FollowAttribute.{FollowAttribute}
 use Rattle.td_ops.specs.declared.attribute.FollowAttribute.TheVariants as follow
 use Rattle.td_ops.specs.declared.attribute.NumberAttribute.{NumberAttribute}

@@ -4,15 +4,15 @@ use Rattle.std.proofs.Common.{None, is_some, nat_le, refl}
 use Rattle.std.proofs.lemmas.Bool.{leb-false}
 use Rattle.td_cdr.specs.Names.{word_name}
 use Rattle.td_cdr.specs.Sound.{text}
-use Rattle.td_codes.specs.References.{reference}
-use Rattle.td_codes.specs.declared.reference.Ior.{Ior}
+use Rattle.td_typecode.specs.References.{reference}
+use Rattle.td_typecode.specs.declared.reference.Ior.{Ior}
 use Rattle.td_exceptions.specs.declared.exception.UserException.TheVariants as user
 use Rattle.td_ior.specs.Profiles.{iiop_of}
 use Rattle.td_ops.specs.declared.call.Change.TheVariants as change
 use Rattle.td_ops.specs.declared.operation.LinkOperation.TheVariants as link
 use Rattle.td_ops.specs.declared.operation.Operation.TheVariants.{Link}
 use Rattle.td_ops.specs.declared.outcome.Reply.TheVariants as reply
-use Rattle.td_store.specs.LinkLists.{is_linked, link_of, most_links, ruled, without_link}
+use Rattle.td_store.specs.LinkLists.{is_linked, link_of, most_links, with_follow_rules, without_link}
 use Rattle.td_store.specs.Stores.{AdmitsLink, IsStore}
 use Rattle.td_store.specs.declared.record.LinkRecord.{LinkRecord}
 use Rattle.td_store.proofs.Limits.{with-link, with-rules, without-link}
@@ -21,7 +21,7 @@ use Rattle.td_value.specs.declared.enumerations.FollowOption.{FollowOption}
 use Rattle.td_register.specs.Causes.{limit_if, raise, raise_if, there, ◌otherwise◌}
 use Rattle.td_register.specs.Stores.{Store}
 use Rattle.td_changes.specs.Applying.{comes_to}
-use Rattle.td_admin.specs.Links.{add_link_cause, linked, modify_link_cause, name_cause}
+use Rattle.td_admin.specs.Links.{add_link_cause, link_named, modify_link_cause, name_cause}
 use Rattle.td_admin.specs.Links.{new_links, permits_more, remove_link_cause, rules_cause, target_cause}
 use Rattle.td_trader_laws.specs.Writable.{IsWritableStore}
 use Rattle.td_trader.specs.Admitted.{AdmitsChange}
@@ -51,7 +51,7 @@ rules-cause maximum def_pass_on limiting =
     ((limiting, maximum), refl, (follow-admitted limiting, follow-admitted maximum)))
 
 pub linked-held : (s : Store) (name : List ℕ) → IsStore s → text.format.admits name
-    → AdmitsFound AdmitsLink (linked s.links name)
+    → AdmitsFound AdmitsLink (link_named s.links name)
 linked-held s name valid n =
     found-when AdmitsLink (word_name name) (there (link_of s.links name) (user.UnknownLinkName name))
     (raise (user.IllegalLinkName name))
@@ -135,7 +135,7 @@ unfolding comes_to
 removes s name w n =
     came (Link link.RemoveLink) (remove_link_cause s name) reply.Nothing
     (record s { links = without_link name s.links })
-    (given-admitted AdmitsLink (linked s.links name) (λ l. None) (linked-held s name w.store n) (λ l h. tt))
+    (given-admitted AdmitsLink (link_named s.links name) (λ l. None) (linked-held s name w.store n) (λ l h. tt))
     (refl, refl)
     (λ none. links-stay s (without_link name s.links) w (without-link s name w.store))
 
@@ -146,9 +146,9 @@ unfolding comes_to
 rules s name def_pass_on limiting w n =
     let maximum = s.attributes.max_link_follow_policy in
     came (Link link.ModifyLink) (modify_link_cause s name def_pass_on limiting) reply.Nothing
-    (record s { links = map (ruled name def_pass_on limiting) s.links })
-    (given-admitted AdmitsLink (linked s.links name) (λ l. rules_cause maximum def_pass_on limiting)
+    (record s { links = map (with_follow_rules name def_pass_on limiting) s.links })
+    (given-admitted AdmitsLink (link_named s.links name) (λ l. rules_cause maximum def_pass_on limiting)
     (linked-held s name w.store n) (λ l h. rules-cause maximum def_pass_on limiting))
     (refl, refl)
-    (λ none. links-stay s (map (ruled name def_pass_on limiting) s.links) w
+    (λ none. links-stay s (map (with_follow_rules name def_pass_on limiting) s.links) w
     (with-rules s name def_pass_on limiting w.store))

@@ -4,7 +4,7 @@ use Rattle.std.proofs.Common.{Option, Some, None, Ok, refl, arith}
 use Rattle.std.proofs.lemmas.List.{length-map}
 use Rattle.td_cdr.specs.Names.{word_name}
 use Rattle.td_cdr.specs.Sound.{sequence, text}
-use Rattle.td_codes.specs.References.{profile, reference}
+use Rattle.td_typecode.specs.References.{profile, reference}
 use Rattle.td_exceptions.specs.declared.exception.UserException.TheVariants.{NotImplemented}
 use Rattle.td_ops.specs.Answers.{AdmitsOutcome}
 use Rattle.td_ops.specs.declared.attribute.Attribute.{Attribute}
@@ -33,7 +33,7 @@ use Rattle.td_types.specs.Repository.{Repository, halves, type_named}
 use Rattle.td_types.specs.Writable.{StaysWritable}
 use Rattle.td_types.specs.declared.entry.ServiceType.{ServiceType}
 use Rattle.td_types.specs.declared.fault.RepoFault.TheVariants as fault
-use Rattle.td_types.specs.declared.reply.TypesReply.TheVariants as told
+use Rattle.td_types.specs.declared.reply.TypesReply.TheVariants as content
 use Rattle.td_types.proofs.Admitted.{described-written, fully_described-written, list-written}
 use Rattle.td_types.proofs.Sequences.{each-filter, each-map, filter-length, sequence-from}
 use Rattle.td_value.specs.Structures.{policy, proxy_info, type_struct}
@@ -48,7 +48,7 @@ use Rattle.td_register.specs.declared.refusal.Refusal.TheVariants.{NotSupported}
 use Rattle.td_admin.specs.Administration.{all_ids, attribute_reply, follow_of, get, ids_of, list_offers, list_proxies}
 use Rattle.td_admin.specs.Administration.{number_of, reference_of, truth_of}
 use Rattle.td_changes.specs.Applying.{seen}
-use Rattle.td_admin.specs.Links.{describe_link, linked, list_links}
+use Rattle.td_admin.specs.Links.{describe_link, link_named, list_links}
 use Rattle.td_admin.specs.Repositories.{describe_type, fully_describe_type, list_types, outcome_of, since}
 use Rattle.td_trader_laws.specs.Writable.{IsWritableStore, LooksAreWritable}
 use Rattle.td_trader_laws.proofs.Admitting.{decimal-clean, refused-admitted, tells-admitted}
@@ -68,32 +68,32 @@ describes s id w i =
     (λ o. reply.Offer (offer_info_of o)) (ordinary-held s id w.store i)
     (λ o h. (refl, (offer_info_of o, refl, h.offer.admitted.info)))
 
-proxy-told : (o : OfferRecord) (part : Option ProxyPart) → IsOffer o → AdmitsProxy part
+proxy-content : (o : OfferRecord) (part : Option ProxyPart) → IsOffer o → AdmitsProxy part
     → proxy_info.format.admits (proxy_info_of o part)
-proxy-told o None h k =
+proxy-content o None h k =
     let i = h.admitted.info in (i.1.0, (i.0, (i.1.1, (tt, (refl, sequence-from policy [] (omega arith) tt)))))
-proxy-told o (Some part) h k = let i = h.admitted.info in (i.1.0, (i.0, (i.1.1, (tt, (k.0, k.1)))))
+proxy-content o (Some part) h k = let i = h.admitted.info in (i.1.0, (i.0, (i.1.1, (tt, (k.0, k.1)))))
 
-supported-told : (o : Operation) (supports : Bool) (outcome : Outcome) → AdmitsOutcome o outcome
+supported-content : (o : Operation) (supports : Bool) (outcome : Outcome) → AdmitsOutcome o outcome
     → AdmitsOutcome o (if_supported supports outcome)
-supported-told o true outcome h = h
-supported-told o false outcome h = refused-admitted o NotSupported tt
+supported-content o true outcome h = h
+supported-content o false outcome h = refused-admitted o NotSupported tt
 
 describes-proxy : (s : Store) (id : List ℕ) → IsWritableStore s → text.format.admits id
     → AdmitsOutcome (Proxy proxy_operation.DescribeProxy) (describe_proxy s id)
 unfolding describe_proxy
 describes-proxy s id w i =
-    supported-told (Proxy proxy_operation.DescribeProxy) s.attributes.supports_proxy_offers
+    supported-content (Proxy proxy_operation.DescribeProxy) s.attributes.supports_proxy_offers
     (tells (proxy s.offers id) (λ o. reply.Proxy (info_of o)))
     (tells-admitted (Proxy proxy_operation.DescribeProxy) (IsHeld s.offers) (proxy s.offers id)
     (λ o. reply.Proxy (info_of o)) (proxy-held s id w.store i)
-    (λ o h. (refl, (info_of o, refl, proxy-told o o.proxy h.offer h.offer.admitted.proxy))))
+    (λ o h. (refl, (info_of o, refl, proxy-content o o.proxy h.offer h.offer.admitted.proxy))))
 
 describes-link : (s : Store) (name : List ℕ) → IsWritableStore s → text.format.admits name
     → AdmitsOutcome (Link link.DescribeLink) (describe_link s name)
 unfolding describe_link
 describes-link s name w n =
-    tells-admitted (Link link.DescribeLink) AdmitsLink (linked s.links name) (λ l. reply.Link (link_info_of l))
+    tells-admitted (Link link.DescribeLink) AdmitsLink (link_named s.links name) (λ l. reply.Link (link_info_of l))
     (linked-held s name w.store n) (λ l h. (refl, (link_info_of l, refl, h.info)))
 
 lists-links : (s : Store) → IsWritableStore s → AdmitsOutcome (Link link.ListLinks) (list_links s)
@@ -148,29 +148,29 @@ lists-proxies s w = proxies-when s.attributes.supports_proxy_offers s w
 
 -- ---- types
 
-type-told : (o : Operation) (named : Bool) (found : Option ServiceType) (name : List ℕ)
+type-content : (o : Operation) (named : Bool) (found : Option ServiceType) (name : List ℕ)
     (tell : ServiceType → TypeStruct) (r : Repository) → text.format.admits name
     → ((d : TypeStruct) → type_struct.format.admits d → AdmitsOutcome o (Done (reply.Typed d)))
-    → StaysWritable (cond named (act_on found name (λ t. Ok (told.Described (tell t), r)))
+    → StaysWritable (cond named (act_on found name (λ t. Ok (content.Described (tell t), r)))
     (refuse (fault.IllegalServiceType name)))
-    → AdmitsOutcome o (outcome_of (cond named (act_on found name (λ t. Ok (told.Described (tell t), r)))
+    → AdmitsOutcome o (outcome_of (cond named (act_on found name (λ t. Ok (content.Described (tell t), r)))
     (refuse (fault.IllegalServiceType name))))
-type-told o true (Some t) name tell r n k h = k (tell t) h.0
-type-told o true None name tell r n k h = (name, refl, n)
-type-told o false found name tell r n k h = (name, refl, n)
+type-content o true (Some t) name tell r n k h = k (tell t) h.0
+type-content o true None name tell r n k h = (name, refl, n)
+type-content o false found name tell r n k h = (name, refl, n)
 
 describes-type : (s : Store) (name : List ℕ) → IsWritableStore s → text.format.admits name
     → AdmitsOutcome (Types types_operation.DescribeType) (describe_type s name)
 unfolding describe_type described
 describes-type s name w n =
-    type-told (Types types_operation.DescribeType) (word_name name) (type_named s.types.types name) name description
+    type-content (Types types_operation.DescribeType) (word_name name) (type_named s.types.types name) name description
     s.types n (λ d h. (refl, (d, refl, h))) (described-written s.types name w.store.types_writable n)
 
 describes-fully : (s : Store) (name : List ℕ) → IsWritableStore s → text.format.admits name
     → AdmitsOutcome (Types types_operation.FullyDescribeType) (fully_describe_type s name)
 unfolding fully_describe_type fully_described
 describes-fully s name w n =
-    type-told (Types types_operation.FullyDescribeType) (word_name name) (type_named s.types.types name) name
+    type-content (Types types_operation.FullyDescribeType) (word_name name) (type_named s.types.types name) name
     (full_description s.types.types) s.types n (λ d h. (refl, (d, refl, h)))
     (fully_described-written s.types name w.store.types_writable n)
 

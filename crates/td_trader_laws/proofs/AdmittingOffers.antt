@@ -6,8 +6,8 @@ use Rattle.std.specs.List.{AllByRecursion, list_any}
 use Rattle.std.specs.Prelude.{unwrap_or}
 use Rattle.td_cdr.specs.Names.{identifier, word_name}
 use Rattle.td_cdr.specs.Sound.{◌&◌, boolean, sequence, text}
-use Rattle.td_codes.specs.References.{reference}
-use Rattle.td_codes.specs.declared.reference.Ior.{Ior}
+use Rattle.td_typecode.specs.References.{reference}
+use Rattle.td_typecode.specs.declared.reference.Ior.{Ior}
 use Rattle.td_exceptions.specs.declared.exception.UserException.TheVariants as user
 use Rattle.td_ior.specs.Profiles.{iiop_of}
 use Rattle.td_lang.specs.Constraints.{constraint_of}
@@ -38,19 +38,21 @@ use Rattle.td_value.specs.Structures.{policy, prop_struct, property}
 use Rattle.td_value.specs.declared.structures.Policy.{Policy}
 use Rattle.td_value.specs.declared.structures.PropStruct.{PropStruct}
 use Rattle.td_value.specs.declared.structures.Property.{Property}
-use Rattle.td_register.specs.Causes.{Found, given, limit_if, raise, raise_if, there, unless_supported}
+use Rattle.td_register.specs.Causes.{OrRefusal, with_cause, limit_if, raise, raise_if, there, unless_supported}
 use Rattle.td_register.specs.Causes.{◌otherwise◌}
-use Rattle.td_register.specs.Ids.{id_of, identified, number_in, numbered, of_ordinary, of_proxies, ordinary, proxy}
-use Rattle.td_register.specs.Named.{demanded, known, open_type, unmasked}
-use Rattle.td_register.specs.Properties.{carries, is_too_large, mismatches, missing, missing_cause}
+use Rattle.td_register.specs.Ids.{id_of, offer_of_id, number_in, offer_numbered, of_ordinary, of_proxies, ordinary}
+use Rattle.td_register.specs.Ids.{proxy}
+use Rattle.td_register.specs.Named.{type_properties, type_found, open_type, if_unmasked}
+use Rattle.td_register.specs.Properties.{carries, is_too_large, mismatches, missing_property, missing_cause}
 use Rattle.td_register.specs.Properties.{mode_of, name_cause, properties_cause, value_cause}
 use Rattle.td_register.specs.Proxies.{export_proxy_cause, exported_proxy, is_recipe, policies_cause}
 use Rattle.td_register.specs.Proxies.{withdraw_proxy_cause}
-use Rattle.td_register.specs.Registers.{asked, asked_in, changes_cause, deletion_cause, deletions_cause}
-use Rattle.td_register.specs.Registers.{export_cause, exported, interface_cause, is_met, last_number, modified}
+use Rattle.td_register.specs.Registers.{constraint_found, asked_in, changes_cause, deletion_cause, deletions_cause}
+use Rattle.td_register.specs.Registers.{export_cause, exported_offer, interface_cause, is_met, last_number}
+use Rattle.td_register.specs.Registers.{modified_properties}
 use Rattle.td_register.specs.Registers.{modify_cause, no_more, none_met, offer_cause, offer_changes_cause}
 use Rattle.td_register.specs.Registers.{offers_modified, offers_not_met, offers_without, passes_limit, readonly_cause}
-use Rattle.td_register.specs.Registers.{renewed, with_offer, withdraw_cause, withdraw_met_cause}
+use Rattle.td_register.specs.Registers.{replacement_of, with_offer, withdraw_cause, withdraw_met_cause}
 use Rattle.td_register.specs.Stores.{Store}
 use Rattle.td_changes.specs.Applying.{comes_to}
 use Rattle.td_trader_laws.specs.Writable.{IsWritableStore}
@@ -105,7 +107,7 @@ filtered s test valid = record {
 
 -- ---- names, types and properties
 
-pub known-type : (types : List ServiceType) (name : List ℕ) → IsText name → AdmitsFound IsAny (known types name)
+pub known-type : (types : List ServiceType) (name : List ℕ) → IsText name → AdmitsFound IsAny (type_found types name)
 known-type types name n =
     found-when IsAny (word_name name) (there (type_named types name) (user.UnknownServiceType name))
     (raise (user.IllegalServiceType name))
@@ -114,9 +116,9 @@ known-type types name n =
 
 open-type : (types : List ServiceType) (name : List ℕ) → IsText name → AdmitsFound IsAny (open_type types name)
 open-type types name n =
-    found-when IsAny (word_name name) (there (unmasked (type_named types name)) (user.UnknownServiceType name))
+    found-when IsAny (word_name name) (there (if_unmasked (type_named types name)) (user.UnknownServiceType name))
     (raise (user.IllegalServiceType name))
-    (there-admitted IsAny (unmasked (type_named types name)) (user.UnknownServiceType name) (name, refl, n) (λ x e. tt))
+    (there-admitted IsAny (if_unmasked (type_named types name)) (user.UnknownServiceType name) (name, refl, n) (λ x e. tt))
     (name, refl, n)
 
 pub name-cause : (before : List (List ℕ)) (name : List ℕ) → IsText name → AdmitsCause (name_cause before name)
@@ -163,9 +165,9 @@ offer-cause : (s : Store) (type_name : List ℕ) (ps : List Property) → IsStor
 offer-cause s type_name ps valid t h =
     let ds = full_properties s.types.types type_name in
     or-else (properties_cause s.attributes.supports_dynamic_properties type_name ds [] ps)
-    (missing_cause type_name (missing ds ps))
+    (missing_cause type_name (missing_property ds ps))
     (properties-cause s.attributes.supports_dynamic_properties type_name ds [] ps t h)
-    (missing-cause type_name (missing ds ps) t
+    (missing-cause type_name (missing_property ds ps) t
     (λ d e. each-found prop_struct.format.admits (λ x. is_mandatory x.mode && not (carries ps x.name)) ds d
     (full-each s type_name valid) e))
 
@@ -191,7 +193,7 @@ unfolding comes_to
 exports s object type_name ps w h =
     let each = sequence-each property ps h.1.1 in
     came-with (Register register.Export) (export_cause s object type_name ps) (reply.Id (id_of (s.last_offer + 1)))
-    (with_offer s (exported s object type_name ps))
+    (with_offer s (exported_offer s object type_name ps))
     (or-else _ _ (raised (is_nil object) (user.InvalidObjectRef object) (object, refl, h.0))
     (or-else _ _
     (given-admitted IsAny (open_type s.types.types type_name) (interface_cause s type_name object)
@@ -202,13 +204,13 @@ exports s object type_name ps w h =
     (λ none.
     let k = (no_export_cause s object type_name ps none).room in
     let small_enough = small object ps k.fits in
-    let offer : IsOffer (exported s object type_name ps) = record {
+    let offer : IsOffer (exported_offer s object type_name ps) = record {
       properties = small_enough.0;
       bytes = small_enough.1;
       admitted = record { info = h; proxy = tt };
     } in (
       (refl, (id_of (s.last_offer + 1), refl, next-id s k.left)),
-      added s (exported s object type_name ps) w refl offer k.few k.left,
+      added s (exported_offer s object type_name ps) w refl offer k.few k.left,
     ))
 
 -- ---- a new proxy offer
@@ -263,7 +265,7 @@ pub record IsHeld (offers : List OfferRecord) (o : OfferRecord) : Type 0 where
   pub found : offer_of offers o.number ≡ Some o
 
 numbered-held : (s : Store) (id : List ℕ) (number : Option ℕ) → IsStore s → IsText id
-    → AdmitsFound (IsHeld s.offers) (numbered s.offers id number)
+    → AdmitsFound (IsHeld s.offers) (offer_numbered s.offers id number)
 numbered-held s id None valid i = (id, refl, i)
 numbered-held s id (Some n) valid i =
     there-admitted (IsHeld s.offers) (offer_of s.offers n) (user.UnknownOfferId id) (id, refl, i)
@@ -274,13 +276,13 @@ numbered-held s id (Some n) valid i =
           (found-each s.offers valid.offers_rise) e;
     })
 
-ordinary-of : (offers : List OfferRecord) (id : List ℕ) (found : Found OfferRecord) → IsText id
+ordinary-of : (offers : List OfferRecord) (id : List ℕ) (found : OrRefusal OfferRecord) → IsText id
     → AdmitsFound (IsHeld offers) found → AdmitsFound (IsHeld offers) (of_ordinary id found)
 ordinary-of offers id (Err f) i h = h
 ordinary-of offers id (Ok o) i h =
     found-when (IsHeld offers) (is_some o.proxy) (raise (user.ProxyOfferId id)) (Ok o) (id, refl, i) h
 
-proxy-of : (offers : List OfferRecord) (id : List ℕ) (found : Found OfferRecord) → IsText id
+proxy-of : (offers : List OfferRecord) (id : List ℕ) (found : OrRefusal OfferRecord) → IsText id
     → AdmitsFound (IsHeld offers) found → AdmitsFound (IsHeld offers) (of_proxies id found)
 proxy-of offers id (Err f) i h = h
 proxy-of offers id (Ok o) i h =
@@ -289,11 +291,11 @@ proxy-of offers id (Ok o) i h =
 pub ordinary-held : (s : Store) (id : List ℕ) → IsStore s → IsText id
     → AdmitsFound (IsHeld s.offers) (ordinary s.offers id)
 ordinary-held s id valid i =
-    ordinary-of s.offers id (identified s.offers id) i (numbered-held s id (number_in id) valid i)
+    ordinary-of s.offers id (offer_of_id s.offers id) i (numbered-held s id (number_in id) valid i)
 
 pub proxy-held : (s : Store) (id : List ℕ) → IsStore s → IsText id → AdmitsFound (IsHeld s.offers) (proxy s.offers id)
 proxy-held s id valid i =
-    proxy-of s.offers id (identified s.offers id) i (numbered-held s id (number_in id) valid i)
+    proxy-of s.offers id (offer_of_id s.offers id) i (numbered-held s id (number_in id) valid i)
 
 -- ---- withdrawing
 
@@ -317,17 +319,17 @@ unfolding comes_to
 withdraws-proxy s id w i =
     came (Proxy proxy_operation.WithdrawProxy) (withdraw_proxy_cause s id) reply.Nothing
     (record s { offers = offers_without s.offers (number_in id) })
-    (or-else (unless_supported s.attributes.supports_proxy_offers) (given (proxy s.offers id) no_more)
+    (or-else (unless_supported s.attributes.supports_proxy_offers) (with_cause (proxy s.offers id) no_more)
     (supported s.attributes.supports_proxy_offers)
     (given-admitted (IsHeld s.offers) (proxy s.offers id) no_more (proxy-held s id w.store i) (λ o h. tt)))
     (refl, refl) (λ none. left s (number_in id) w)
 
 pub asked-any : (constraint : List ℕ) (r : Result Constraint LangFault) → IsText constraint
-    → AdmitsFound IsAny (asked constraint r)
+    → AdmitsFound IsAny (constraint_found constraint r)
 asked-any constraint (Ok c) t = tt
 asked-any constraint (Err f) t = (constraint, refl, t)
 
-not-met : (s : Store) (type_name : List ℕ) (found : Found Constraint) → IsWritableStore s
+not-met : (s : Store) (type_name : List ℕ) (found : OrRefusal Constraint) → IsWritableStore s
     → IsWritableStore (record s { offers = offers_not_met s type_name found })
 not-met s type_name (Err f) w = w
 not-met s type_name (Ok c) w =
@@ -340,12 +342,12 @@ pub withdraws-met : (s : Store) (type_name constraint : List ℕ) → IsWritable
     (comes_to s (change.WithdrawUsingConstraint type_name constraint))
 unfolding comes_to
 withdraws-met s type_name constraint w h =
-    let typed = given (known s.types.types type_name) no_more in
-    let met = given (asked_in constraint) (none_met s type_name constraint) in
+    let typed = with_cause (type_found s.types.types type_name) no_more in
+    let met = with_cause (asked_in constraint) (none_met s type_name constraint) in
     came (Register register.WithdrawUsingConstraint) (withdraw_met_cause s type_name constraint) reply.Nothing
     (record s { offers = offers_not_met s type_name (asked_in constraint) })
     (or-else typed met
-    (given-admitted IsAny (known s.types.types type_name) no_more (known-type s.types.types type_name h.0) (λ x _. tt))
+    (given-admitted IsAny (type_found s.types.types type_name) no_more (known-type s.types.types type_name h.0) (λ x _. tt))
     (given-admitted IsAny (asked_in constraint) (none_met s type_name constraint)
     (asked-any constraint (constraint_of constraint) h.1)
     (λ c _. raised (not (list_any (is_met s.types.types type_name c) s.offers)) (user.NoMatchingOffers constraint)
@@ -393,14 +395,14 @@ module _ (ds : List PropStruct) (o : OfferRecord) (t : IsText o.service_type) wh
 offer-changes : (s : Store) (deleted : List (List ℕ)) (changed : List Property) (o : OfferRecord) → IsOffer o
     → AreTexts deleted → AreProperties changed → AdmitsCause (offer_changes_cause s deleted changed o)
 offer-changes s deleted changed o h d c =
-    let ds = demanded s.types.types o in
+    let ds = type_properties s.types.types o in
     let supports = s.attributes.supports_dynamic_properties in
-    let limit = limit_if (is_too_large o.reference (modified o.properties deleted changed)) in
+    let limit = limit_if (is_too_large o.reference (modified_properties o.properties deleted changed)) in
     let t = h.admitted.info.1.0 in
     or-else (deletions_cause ds o [] deleted) (changes_cause supports ds o deleted changed otherwise limit)
     (deletions-cause ds o t [] deleted d)
     (or-else (changes_cause supports ds o deleted changed) limit (changes-cause ds o t supports deleted changed c)
-    (limited (is_too_large o.reference (modified o.properties deleted changed))))
+    (limited (is_too_large o.reference (modified_properties o.properties deleted changed))))
 
 given-or : (found : Option Property) (p : Property) → ((q : Property) → found ≡ Some q → IsProperty q) → IsProperty p
     → IsProperty (unwrap_or found p)
@@ -408,18 +410,18 @@ given-or None p h k = k
 given-or (Some q) p h k = h q refl
 
 renewed-each : (changed : List Property) (p : Property) → AreProperties changed → IsProperty p
-    → IsProperty (renewed changed p)
+    → IsProperty (replacement_of changed p)
 renewed-each changed p c h =
     given-or (find (λ q. bytes_eq q.name p.name) changed) p
     (λ q e. each-found IsProperty (λ q. bytes_eq q.name p.name) changed q c e) h
 
 modified-each : (ps : List Property) (deleted : List (List ℕ)) (changed : List Property) → AreProperties ps
-    → AreProperties changed → AreProperties (modified ps deleted changed)
+    → AreProperties changed → AreProperties (modified_properties ps deleted changed)
 modified-each ps deleted changed h c =
     let stay : List Property = filter (λ p. not (is_among p.name deleted)) ps in
     let new : List Property = filter (λ p. not (carries ps p.name)) changed in
-    each-append IsProperty (map (renewed changed) stay) new
-    (each-map IsProperty IsProperty (renewed changed) stay (λ p k. renewed-each changed p c k)
+    each-append IsProperty (map (replacement_of changed) stay) new
+    (each-map IsProperty IsProperty (replacement_of changed) stay (λ p k. renewed-each changed p c k)
     (each-filter IsProperty (λ p. not (is_among p.name deleted)) ps h))
     (each-filter IsProperty (λ p. not (carries ps p.name)) changed c)
 
@@ -440,14 +442,14 @@ offer-modified o ps h each fits =
       };
     }
 
-modified-stays : (s : Store) (deleted : List (List ℕ)) (changed : List Property) (found : Found OfferRecord)
+modified-stays : (s : Store) (deleted : List (List ℕ)) (changed : List Property) (found : OrRefusal OfferRecord)
     → IsWritableStore s → AreProperties changed → AdmitsFound (IsHeld s.offers) found
-    → given found (offer_changes_cause s deleted changed) ≡ None
+    → with_cause found (offer_changes_cause s deleted changed) ≡ None
     → IsWritableStore (record s { offers = offers_modified s.offers deleted changed found })
 modified-stays s deleted changed (Err f) w c h none = w
 modified-stays s deleted changed (Ok o) w c h none =
-    let ds = demanded s.types.types o in
-    let ps = modified o.properties deleted changed in
+    let ds = type_properties s.types.types o in
+    let ps = modified_properties o.properties deleted changed in
     let limit = limit_if (is_too_large o.reference ps) in
     let fits =
     no-limit (is_too_large o.reference ps)
@@ -471,7 +473,7 @@ modifies s id deleted changed w h =
     let each = sequence-each property changed h.1.1 in
     let held = ordinary-held s id w.store h.0 in
     let can = raise_if (not s.attributes.supports_modifiable_properties) user.NotImplemented in
-    let rest = given (ordinary s.offers id) (offer_changes_cause s deleted changed) in
+    let rest = with_cause (ordinary s.offers id) (offer_changes_cause s deleted changed) in
     came (Register register.Modify) (modify_cause s id deleted changed) reply.Nothing
     (record s { offers = offers_modified s.offers deleted changed (ordinary s.offers id) })
     (or-else can rest (raised (not s.attributes.supports_modifiable_properties) user.NotImplemented refl)

@@ -20,7 +20,7 @@ use Rattle.td_types.specs.Adding.{base_fault, definitions, inherited_definitions
 use Rattle.td_types.specs.Adding.{new_type, or_else, property_fault, redefinition, super_fault, supers_fault, with_type}
 use Rattle.td_types.specs.Calls as types
 use Rattle.td_types.specs.Calls.{add_fault}
-use Rattle.td_types.specs.Repository.{Founded, IsRepository, Repository, has_type, halves, is_named, top}
+use Rattle.td_types.specs.Repository.{IsWellFounded, IsRepository, Repository, has_type, halves, is_named, top}
 use Rattle.td_types.specs.Repository.{type_named}
 use Rattle.td_types.specs.Writable.{AreWritable, IsWritableFault, StaysWritable}
 use Rattle.td_types.specs.declared.entry.ServiceType.{ServiceType}
@@ -40,7 +40,7 @@ use Rattle.td_changes.specs.Applying.{comes_to}
 use Rattle.td_admin.specs.Repositories.{exception_of, next_incarnation, types_cause, with_types}
 use Rattle.td_trader_laws.specs.Writable.{IsWritableStore}
 use Rattle.td_trader_laws.proofs.Admitting.{AdmitsComes, AdmitsException}
-use Rattle.td_admin.proofs.TypesTold.{added-told}
+use Rattle.td_admin.proofs.TypesTold.{added-content}
 
 -- ---- exceptions
 
@@ -62,15 +62,15 @@ fault-admitted (fault.NotMasked name) h = (name, refl, h)
 -- ---- a store with another repository
 
 -- what besides is asked of the repository that an accepted call leaves
-pub record IsAccepted (o : Operation) (told : Reply) (r : Repository) : Type 0 where
-  pub reply : AdmitsOutcome o (Done told)
+pub record IsAccepted (o : Operation) (content : Reply) (r : Repository) : Type 0 where
+  pub reply : AdmitsOutcome o (Done content)
   pub valid : IsRepository r
   pub last : r.last ≤ last_incarnation
 
-changes : (s : Store) (o : Operation) (told : Reply) (r : types.Comes) → IsWritableStore s → StaysWritable r
-    → ((a : TypesReply × Repository) → r ≡ Ok a → IsAccepted o told a.1)
-    → AdmitsComes o (unless (types_cause r) told (with_types s r))
-changes s o told (Ok a) w h k =
+changes : (s : Store) (o : Operation) (content : Reply) (r : types.RepositoryResult) → IsWritableStore s → StaysWritable r
+    → ((a : TypesReply × Repository) → r ≡ Ok a → IsAccepted o content a.1)
+    → AdmitsComes o (unless (types_cause r) content (with_types s r))
+changes s o content (Ok a) w h k =
     let is = k a refl in
     let valid = w.store in (
       is.reply,
@@ -92,9 +92,9 @@ changes s o told (Ok a) w h k =
         incarnation = is.last;
       },
     )
-changes s o told (Err (Raises f)) w h k = fault-admitted f h
-changes s o told (Err Full) w h k = tt
-changes s o told (Err Memory) w h k = tt
+changes s o content (Err (Raises f)) w h k = fault-admitted f h
+changes s o content (Err Full) w h k = tt
+changes s o content (Err Memory) w h k = tt
 
 -- ---- a repository with one type more
 
@@ -154,12 +154,12 @@ valid-added r name if_name props supers valid h =
     (no-later (property_fault [] props) behind (no-later (name_fault r name) rest h))) in
     let counted = valid.counted in
     let turn : reverse (r.types ++ t ∷ []) ≡ t ∷ reverse r.types = reverse-append r.types (t ∷ []) in
-    let founded : Founded (t ∷ reverse r.types) =
-    Founded.more t (reverse r.types) (any-reverse (is_named name) r.types ∙ fresh) known (omega (arith, counted))
+    let founded : IsWellFounded (t ∷ reverse r.types) =
+    IsWellFounded.more t (reverse r.types) (any-reverse (is_named name) r.types ∙ fresh) known (omega (arith, counted))
     valid.founded in
     let last : top (t ∷ reverse r.types) ≤ r.last + 1 = omega arith in
     record {
-      founded = subst Founded (sym turn) founded;
+      founded = subst IsWellFounded (sym turn) founded;
       counted = subst (λ (ts : List ServiceType). top ts ≤ r.last + 1) (sym turn) last;
     }
 
@@ -178,7 +178,7 @@ adds s name if_name props supers w h =
     (types.add_type s.types name if_name props supers) w
     (adding-written s.types name if_name props supers w.store.types_writable h)
     (λ a e.
-    let below = (added-told s.types name if_name props supers a e).below in
+    let below = (added-content s.types name if_name props supers a e).below in
     let f = after_adding s.types name if_name props supers a.0 a.1 e in
     let after : with_type s.types (new_type s.types name if_name props supers) ≡ a.1 =
     ap (λ (p : TypesReply × Repository). p.1) f.1 in

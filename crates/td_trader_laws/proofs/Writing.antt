@@ -19,7 +19,7 @@ push (x ∷ history) e h k = (h.0, push history e h.1 k)
 
 kept-through : (t : PlainTrader) (c : Change) (o : Outcome) → IsWritableTrader t → AdmitsChange c
     → IsWritableTrader (after_outcome t c o)
-kept-through t c (Done told) w h = record { opening = w.opening; changes = push t.history (entry c told) w.changes h }
+kept-through t c (Done content) w h = record { opening = w.opening; changes = push t.history (entry c content) w.changes h }
 kept-through t c (User e) w h = w
 kept-through t c (System kind minor completion) w h = w
 

@@ -9,7 +9,7 @@ use Rattle.td_cdr.specs.Format.{◌>>=◌}
 use Rattle.td_cdr.specs.Names.{identifier}
 use Rattle.td_cdr.specs.Seen.{is_among}
 use Rattle.td_cdr.specs.Sound.{text}
-use Rattle.td_codes.specs.Same.{same}
+use Rattle.td_typecode.specs.Same.{same}
 use Rattle.td_exceptions.specs.declared.exception.UserException.TheVariants as user
 use Rattle.td_lang.specs.Constraints.{constraint_of}
 use Rattle.td_lang.specs.Preferences.{preference_of}
@@ -20,10 +20,10 @@ use Rattle.td_ops.specs.Parameters.{query}
 use Rattle.td_ops.specs.declared.call.Query.{Query}
 use Rattle.td_ops.specs.declared.operation.Operation.TheVariants as operation
 use Rattle.td_policy.specs.Effective.{effective_of}
-use Rattle.td_policy.specs.Stated.{known, next_stated, nothing, policies, stated, stated_after, stated_value, states}
+use Rattle.td_policy.specs.Stated.{if_known, next_stated, nothing, policies, stated, stated_after, stated_value, states}
 use Rattle.td_policy.specs.Stated.{valid}
 use Rattle.td_policy.specs.Fields.{kind_of, put}
-use Rattle.td_policy.specs.Values.{Kind}
+use Rattle.td_policy.specs.Values.{PolicyKind}
 use Rattle.td_policy.specs.declared.fault.PolicyFault.{PolicyFault}
 use Rattle.td_policy.specs.declared.fault.PolicyFault.TheVariants as fault
 use Rattle.td_policy.specs.declared.stated.Stated.{Stated}
@@ -38,8 +38,8 @@ use Rattle.td_value.specs.Unions.{specified_props}
 use Rattle.td_value.specs.declared.structures.Policy.{Policy}
 use Rattle.td_value.specs.declared.unions.SpecifiedProps.{SpecifiedProps}
 use Rattle.td_value.specs.declared.unions.SpecifiedProps.TheVariants as desired
-use Rattle.td_register.specs.Causes.{Cause, given, limit_if, ◌otherwise◌}
-use Rattle.td_register.specs.Named.{known as known_type}
+use Rattle.td_register.specs.Causes.{Cause, with_cause, limit_if, ◌otherwise◌}
+use Rattle.td_register.specs.Named.{type_found as known_type}
 use Rattle.td_register.specs.Properties.{name_cause}
 use Rattle.td_register.specs.Registers.{asked_in, no_more}
 use Rattle.td_register.specs.Stores.{Store}
@@ -52,7 +52,8 @@ use Rattle.td_trader_laws.proofs.AdmittingOffers.{IsAny, asked-any, known-type, 
 use Rattle.td_trader.specs.Beginning.{begin_along, begin_here, begin_of, begin_unless, repeated_in, searched_under}
 use Rattle.td_trader.specs.PlainTraders.{store_of}
 use Rattle.td_trader.specs.Queries.{desired_cause, first_name, link_cause, names_cause, others_cause, parts_cause}
-use Rattle.td_trader.specs.Queries.{parts_of, path_link, policy_refusal, preferred, preferred_in, refusal, start_cause}
+use Rattle.td_trader.specs.Queries.{parts_of, path_link, policy_refusal, preference_found, preferred_in, refusal}
+use Rattle.td_trader.specs.Queries.{start_cause}
 use Rattle.td_trader.specs.Queries.{start_policy, stated_in, unless_fault}
 use Rattle.td_trader.specs.Serving.{local_of}
 use Rattle.td_trader.specs.declared.begin.Begin.{Begin}
@@ -82,7 +83,7 @@ value-valid : {A : Type 0} (p : Policy) (o : Option A) → policy.format.admits 
 value-valid p None h = (p, refl, h)
 value-valid p (Some x) h = tt
 
-value-stated : {A : Type 0} (kind : Kind A) (p : Policy) → policy.format.admits p → FaultAdmitted (stated_value kind p)
+value-stated : {A : Type 0} (kind : PolicyKind A) (p : Policy) → policy.format.admits p → FaultAdmitted (stated_value kind p)
 value-stated kind p h =
     fault-when (same p.value.code kind.code) (valid p (kind.value_of p.value.value)) (Err (fault.PolicyTypeMismatch p))
     (value-valid p (kind.value_of p.value.value) h) (p, refl, h)
@@ -90,7 +91,7 @@ value-stated kind p h =
 abbrev IsGood : States → Type 0
 IsGood entry = (p : Policy) (s : Stated) → policy.format.admits p → FaultAdmitted (entry p s)
 
-good : {A : Type 0} (kind : Kind A) (put : Option A → Stated → Stated) → IsGood (states kind put)
+good : {A : Type 0} (kind : PolicyKind A) (put : Option A → Stated → Stated) → IsGood (states kind put)
 good kind put p s h = bound (stated_value kind p) (λ x. Ok (put x s)) (value-stated kind p h) (λ x. tt)
 
 each-good : AllByRecursion (λ x. IsGood x.1) policies
@@ -111,14 +112,14 @@ looked test [] h = tt
 looked test (x ∷ xs) h = good-when (test x.0) x.1 (lookup test xs) h.0 (looked test xs h.1)
 
 known-good : (found : Option States) (p : Policy) (s : Stated) → FoundGood found → policy.format.admits p
-    → FaultAdmitted (known found p s)
+    → FaultAdmitted (if_known found p s)
 known-good None p s g h = tt
 known-good (Some entry) p s g h = g p s h
 
 next-good : (earlier : List (List ℕ)) (s : Stated) (p : Policy) → policy.format.admits p
     → FaultAdmitted (next_stated earlier s p)
 next-good earlier s p h =
-    let entry = known (lookup (bytes_eq p.name) policies) p s in
+    let entry = if_known (lookup (bytes_eq p.name) policies) p s in
     fault-when (not (identifier p.name)) (Err (fault.IllegalPolicyName p.name))
     (cond (is_among p.name earlier) (Err (fault.DuplicatePolicyName p.name)) entry) (p.name, refl, h.0)
     (fault-when (is_among p.name earlier) (Err (fault.DuplicatePolicyName p.name)) entry (p.name, refl, h.0)
@@ -138,7 +139,7 @@ stated-found (Err f) h = h
 -- ---- the other causes
 
 preferred-any : (preference : List ℕ) (r : Result Preference LangFault) → text.format.admits preference
-    → AdmitsFound IsAny (preferred preference r)
+    → AdmitsFound IsAny (preference_found preference r)
 preferred-any preference (Ok p) h = tt
 preferred-any preference (Err f) h = (preference, refl, h)
 
@@ -181,11 +182,11 @@ refusal-admitted : (bounds : Bounds) (count : ℕ) (s : Store) (q : Query) → q
 unfolding refusal
 refusal-admitted bounds count s q h =
     let ps = sequence-each policy q.policies h.1.1.1.0 in
-    let typed = given (known_type s.types.types q.service_type) no_more in
+    let typed = with_cause (known_type s.types.types q.service_type) no_more in
     let others = others_cause bounds count s.links q (parts_of q).stated in
-    let asked = given (asked_in q.constraint) no_more in
-    let preference = given (preferred_in q.preference) no_more in
-    let said = given (stated_in q.policies) no_more in
+    let asked = with_cause (asked_in q.constraint) no_more in
+    let preference = with_cause (preferred_in q.preference) no_more in
+    let said = with_cause (stated_in q.policies) no_more in
     let start = start_cause s.links q.policies (first_name (parts_of q).stated) in
     let limit = limit_if (nat_le bounds.begins count) in
     or-else typed (parts_cause q otherwise others)

@@ -16,7 +16,7 @@ use Rattle.td_types.proofs.Sequences.{each-append}
 use Rattle.td_register.specs.Entries.{entry}
 use Rattle.td_register.specs.declared.history.Accepted.{Accepted}
 use Rattle.td_trader.specs.Beginning.{after_begin as marks_after}
-use Rattle.td_trader.specs.Solos.{nothing}
+use Rattle.td_trader.specs.Solos.{no_changes}
 use Rattle.td_trader.specs.Worlds.{Meanwhile, View, after_begin, after_others}
 use Rattle.td_trader.specs.Worlds.{after_own, store_seen, with_view}
 use Rattle.td_trader_laws.specs.WritableWorlds.{AdmitsRefused, IsWritableView, IsWritableWorld, OthersAreAdmitted}
@@ -57,7 +57,7 @@ others-written v between marks h b = record {
 
 own-written : (v : View) (c : Change) (o : Outcome) → IsWritableView v → AdmitsChange c
     → IsWritableView (after_own v c o)
-own-written v c (Done told) h a = record { opening = h.opening; changes = push v.history (entry c told) h.changes a }
+own-written v c (Done content) h a = record { opening = h.opening; changes = push v.history (entry c content) h.changes a }
 own-written v c (User e) h a = h
 own-written v c (System kind minor completion) h a = h
 
@@ -105,5 +105,5 @@ module _ (others : List Accepted → Type 0) (later : Marks → Marks → Type 0
     worlds-watch w u k h r =
         put w u k r.seen h (seen-written w k r.seen h r.meanwhile) r.world
 
-pub solo-admitted : OthersAreAdmitted nothing
+pub solo-admitted : OthersAreAdmitted no_changes
 solo-admitted between none = subst AreAdmitted (sym none) tt

@@ -1,15 +1,15 @@
 -- Each change, and each history: what it comes to can be written.
 use Rattle.std.proofs.Common.{ℕ, zero, suc, ◌+◌, List, [], ◌∷◌, take, Some, None, refl, subst}
 use Rattle.td_cdr.specs.Sound.{◌&◌, boolean, sequence, text, ulong}
-use Rattle.td_codes.specs.References.{reference}
+use Rattle.td_typecode.specs.References.{reference}
 use Rattle.td_ops.specs.Answers.{AdmitsOutcome}
 use Rattle.td_ops.specs.Called.{change_operation}
 use Rattle.td_ops.specs.declared.call.Change.{Change}
 use Rattle.td_ops.specs.declared.call.Change.TheVariants as change
-use Rattle.td_register.specs.Causes.{Comes, applied}
+use Rattle.td_register.specs.Causes.{ChangeResult, effect_of}
 use Rattle.td_register.specs.Stores.{Store}
 use Rattle.td_register.specs.declared.history.Accepted.{Accepted}
-use Rattle.td_changes.specs.Applying.{acceptance, apply, cause_of, comes_to, counted, is_at_limit, with_change}
+use Rattle.td_changes.specs.Applying.{acceptance, apply, cause_of, comes_to, count_change, is_at_limit, with_change}
 use Rattle.td_changes.specs.Histories.{LegalFrom, after_all}
 use Rattle.td_trader_laws.specs.Writable.{ChangesStayWritable, CountedChangesStayWritable}
 use Rattle.td_trader.proofs.ReadAdmitted.{parameters}
@@ -85,8 +85,8 @@ comes-admitted s (change.UnmaskType name) w h =
     types.unmasks s name w
     (parameters (λ p. change.UnmaskType p) (elim [ change.UnmaskType x ↦ Some x | _ ↦ None ]) text name (λ _. refl) h)
 
-written : (s : Store) (c : Change) (r : Comes) → IsWritableStore s → AdmitsComes (change_operation c) r
-    → IsWritten c (applied s r)
+written : (s : Store) (c : Change) (r : ChangeResult) → IsWritableStore s → AdmitsComes (change_operation c) r
+    → IsWritten c (effect_of s r)
 written s c r w h = record {
   outcome = applied-outcome (change_operation c) s r h;
   store = applied-store (change_operation c) s r w h;
@@ -96,9 +96,9 @@ pub changes : ChangesStayWritable
 changes s c w h = written s c (comes_to s c) w (comes-admitted s c w h)
 
 pub counted-changes : CountedChangesStayWritable
-unfolding counted comes_to
+unfolding count_change comes_to
 counted-changes bounds count s c w h =
-    written s c (counted bounds count s c) w
+    written s c (count_change bounds count s c) w
     (counted-admitted (change_operation c) (is_at_limit bounds count) (cause_of s c) (acceptance s c) (with_change s c)
     (comes-admitted s c w h))
 

@@ -1,24 +1,25 @@
 -- Traders as they are reached: opened, and then by changes, by room that is reserved, and by queries that begin. A look
--- leaves a trader as it was, and so does a call that wants memory.
+-- leaves a trader as it was, and so does a call that runs out of memory.
 use Rattle.std.specs.Prelude.{◌≡◌, ℕ, ◌+◌, ◌<◌, true, List, length, slice_get, Some, None}
-use Rattle.td_cdr.specs.Marks.{Holds, Later}
-use Rattle.td_marks.specs.Keeping.{IsKept as AreMarks}
+use Rattle.td_cdr.specs.Marks.{RemembersAs, Later}
+use Rattle.td_marks.specs.Keeping.{AreRingMarks as AreMarks}
 use Rattle.td_ops.specs.declared.call.Change.{Change}
 use Rattle.td_ops.specs.declared.call.Query.{Query}
 use Rattle.td_store.specs.declared.local.Local.{Local}
 use Rattle.td_changes.specs.Histories.{Legal}
 use Rattle.td_changes.specs.declared.bounds.Bounds.{Bounds}
 use Rattle.td_register.specs.Stores.{Store}
-use Rattle.td_trader.specs.BeginLaws.{IsSearched}
+use Rattle.td_trader.specs.BeginLaws.{IsSearchOfStore}
 use Rattle.td_trader.specs.Beginning.{Begins}
 use Rattle.td_trader.specs.Following.{Follows}
-use Rattle.td_trader.specs.PlainTraders.{AreBounds, PlainTrader, after_begin, after_change, begin_at, opened, store_of}
+use Rattle.td_trader.specs.PlainTraders.{AreBounds, PlainTrader, after_begin, after_change, begin_at, new_trader}
+use Rattle.td_trader.specs.PlainTraders.{store_of}
 use Rattle.td_trader.specs.Queries.{parts_of}
 use Rattle.td_trader.specs.declared.begin.Begin.TheVariants.{Search}
 
 pub data IsReached : PlainTrader → Type 0 where
   just_opened : (name : List ℕ) (opening : Store) (bounds : Bounds) → AreBounds bounds
-      → IsReached (opened name opening bounds)
+      → IsReached (new_trader name opening bounds)
   by_change : (t : PlainTrader) (c : Change) → IsReached t → IsReached (after_change t c)
   by_reserving : (t : PlainTrader) → IsReached t → IsReached (record t { reserved = true })
   by_query : (t : PlainTrader) (q : Query) → IsReached t
@@ -31,14 +32,14 @@ AreReached ts = (n : ℕ) (t : PlainTrader) → slice_get ts n ≡ Some t → Is
 -- ---- what holds of each
 
 -- bounds that a trader may have, marks as its ring keeps them, and a history that is legal
-pub record IsInOrder (t : PlainTrader) : Type 0 where
+pub record IsLegalView (t : PlainTrader) : Type 0 where
   pub bounds : AreBounds t.bounds
   pub marks : AreMarks t.marks
   pub ring : t.marks.ring ≡ t.bounds.ring
   pub legal : Legal t.bounds t.opening t.history
 
 abbrev pub ReachedTradersAreInOrder : Type 0
-ReachedTradersAreInOrder = (t : PlainTrader) → IsReached t → IsInOrder t
+ReachedTradersAreInOrder = (t : PlainTrader) → IsReached t → IsLegalView t
 
 -- each query begins in one of four ways
 abbrev pub ReachedTradersBegin : Type 0
@@ -50,9 +51,9 @@ ReachedTradersBegin =
 -- store behind the history, whose length is the point.
 pub record IsSearchAt (t : PlainTrader) (q : Query) (l : Local) : Type 0 where
   pub identifier : List ℕ
-  pub fresh : (number : ℕ) → Holds t.marks identifier number → ⊥
-  pub searched : IsSearched (store_of t) (length t.history) (t.marks.count + 1) identifier q l
-  pub held : Holds (after_begin t q (Search l)).marks identifier l.mark
+  pub fresh : (number : ℕ) → RemembersAs t.marks identifier number → ⊥
+  pub searched : IsSearchOfStore (store_of t) (length t.history) (t.marks.count + 1) identifier q l
+  pub held : RemembersAs (after_begin t q (Search l)).marks identifier l.mark
 
 abbrev pub ReachedTradersSearch : Type 0
 ReachedTradersSearch =

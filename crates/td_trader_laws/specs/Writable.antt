@@ -12,7 +12,7 @@ use Rattle.td_ops.specs.declared.call.Look.TheVariants as look
 use Rattle.td_ops.specs.declared.outcome.Outcome.TheVariants.{Done}
 use Rattle.td_store.specs.Stores.{IsStore}
 use Rattle.td_types.specs.Adding.{last_incarnation}
-use Rattle.td_register.specs.Causes.{Applied}
+use Rattle.td_register.specs.Causes.{Effect}
 use Rattle.td_register.specs.Registers.{last_number}
 use Rattle.td_register.specs.Stores.{Store}
 use Rattle.td_register.specs.declared.history.Accepted.{Accepted}
@@ -59,7 +59,7 @@ AdmitsLook (look.Get attribute) = Unit {0}
 -- ---- what holds of each
 
 -- the outcome is one of the change's operation that can be written, and so can the store behind it
-pub record IsWritten (c : Change) (a : Applied) : Type 0 where
+pub record IsWritten (c : Change) (a : Effect) : Type 0 where
   pub outcome : AdmitsOutcome (change_operation c) a.outcome
   pub store : IsWritableStore a.store
 

@@ -13,7 +13,7 @@ use Rattle.td_ops.specs.declared.outcome.Outcome.{Outcome}
 use Rattle.td_trader_laws.specs.Writable.{AdmitsLook, IsWritableStore}
 use Rattle.td_trader.specs.Admitted.{AdmitsChange, AreAdmitted}
 use Rattle.td_register.specs.declared.history.Accepted.{Accepted}
-use Rattle.td_trader.specs.Worlds.{Begun, Changes, Looks, View, Watches}
+use Rattle.td_trader.specs.Worlds.{BeginsQuery, ChangesTrader, LooksAtTrader, View, Watches}
 use Rattle.td_trader.specs.declared.begin.Begin.{Begin}
 use Rattle.td_trader.specs.declared.begin.Begin.TheVariants.{Refused, Repeat, Search, Path}
 
@@ -43,19 +43,20 @@ module _ (others : List Accepted → Type 0) (later : Marks → Marks → Type 0
   abbrev pub WorldsChangeWritably : Type 0
   WorldsChangeWritably =
       (w u : List View) (k : ℕ) (c : Change) (o : Outcome) → IsWritableWorld w
-      → AdmitsChange c → Changes others later w k c o u
+      → AdmitsChange c → ChangesTrader others later w k c o u
       → AdmitsOutcome (change_operation c) o × IsWritableWorld u
 
   abbrev pub WorldsLookWritably : Type 0
   WorldsLookWritably =
       (w u : List View) (k : ℕ) (l : Look) (a : Outcome × ℕ) → IsWritableWorld w
-      → AdmitsLook l → Looks others later w k l a u → AdmitsOutcome (look_operation l) a.0
+      → AdmitsLook l → LooksAtTrader others later w k l a u → AdmitsOutcome (look_operation l) a.0
       × IsWritableWorld u
 
   abbrev pub WorldsBeginWritably : Type 0
   WorldsBeginWritably =
       (w u : List View) (k : ℕ) (q : Query) (b : Begin) → IsWritableWorld w
-      → query.format.admits q → Begun others later w k q b u → AdmitsRefused b × IsWritableWorld u
+      → query.format.admits q → BeginsQuery others later w k q b u → AdmitsRefused b
+      × IsWritableWorld u
 
   abbrev pub WorldsWatchWritably : Type 0
   WorldsWatchWritably =

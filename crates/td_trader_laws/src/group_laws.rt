@@ -1,7 +1,7 @@
 //! What holds of every trader whose values can be written, as functions that do nothing: each one's contract is the
 //! law.
 
-ghost use Rattle.td_trader.specs.Solos.{nothing};
+ghost use Rattle.td_trader.specs.Solos.{no_changes};
 ghost use Rattle.td_trader_laws.specs.WritableTraders.{TradersBeginWritably, TradersChangeWritably};
 ghost use Rattle.td_trader_laws.specs.WritableTraders.{TradersLookWritably, TradersRefuseWritably};
 ghost use Rattle.td_trader_laws.specs.WritableTraders.{TradersSearchWritably, TradersStoresAreWritable};
@@ -33,10 +33,10 @@ pub fn groups_stay_writable<T: Traders>()
     ensures change { WorldsChangeWritably T.others T.later }
     ensures look { WorldsLookWritably T.others T.later }
     ensures begin { WorldsBeginWritably T.others T.later }
-    ensures wanting { WorldsWatchWritably T.others T.later }
+    ensures no_memory_outcome { WorldsWatchWritably T.others T.later }
 {}
 
 /// Of a group that one session has alone others make no change.
 pub fn none_is_admitted()
-    ensures { OthersAreAdmitted nothing }
+    ensures { OthersAreAdmitted no_changes }
 {}

@@ -3,7 +3,7 @@
 
 ghost use Rattle.std.specs.Prelude.{◌<◌, ◌^◌};
 ghost use Rattle.td_cdr.specs.Marks.{Marks};
-ghost use Rattle.td_marks.specs.Keeping.{IsKept as AreMarks};
+ghost use Rattle.td_marks.specs.Keeping.{AreRingMarks as AreMarks};
 ghost use Rattle.td_trader.specs.BeginLaws.{AreKept};
 ghost use Rattle.td_trader_laws.specs.Reaching.{ReachedMarksGrowLater, ReachedTradersAreInOrder, ReachedTradersBegin};
 ghost use Rattle.td_trader_laws.specs.Reaching.{ReachedTradersSearch, SearchesAreMadeApart};

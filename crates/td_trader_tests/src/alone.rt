@@ -19,13 +19,13 @@ pub fn is_alone(
     trader: &Trader,
     how: &str,
     call: Result<Boxed<Call>, OpsFault>,
-    told: &str,
+    content: &str,
 ) -> bool {
     let Ok(call) = call else {
         return false;
     };
     match call.get() {
-        Call::Query(query) => is_begun(served(alloc, trader, how, query), told),
+        Call::Query(query) => is_begun(served(alloc, trader, how, query), content),
         _ => false,
     }
 }

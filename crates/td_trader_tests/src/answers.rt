@@ -10,25 +10,25 @@ use td_value::{FollowOption, IncarnationNumber, LinkInfo, OfferInfo, Property, P
 
 /// Whether an outcome is this: a reply in words, what stands in an exception's id behind `IDL:omg.org/CosTrading`, or
 /// the name of a system exception.
-pub fn is_outcome(outcome: &Outcome, told: &str) -> bool {
+pub fn is_outcome(outcome: &Outcome, content: &str) -> bool {
     match outcome {
-        Outcome::Done(reply) => is_reply(reply, told),
-        Outcome::User(exception) => is_raised(exception, told),
-        Outcome::System { kind, .. } => is_system(*kind, told),
+        Outcome::Done(reply) => is_reply(reply, content),
+        Outcome::User(exception) => is_raised(exception, content),
+        Outcome::System { kind, .. } => is_system(*kind, content),
     }
 }
 
-fn is_system(kind: SystemKind, told: &str) -> bool {
+fn is_system(kind: SystemKind, content: &str) -> bool {
     match kind {
-        SystemKind::NoImplement => told == "NO_IMPLEMENT",
-        SystemKind::ImpLimit => told == "IMP_LIMIT",
+        SystemKind::NoImplement => content == "NO_IMPLEMENT",
+        SystemKind::ImpLimit => content == "IMP_LIMIT",
         _ => false,
     }
 }
 
 /// Behind the id of InvalidPolicyValue stands the policy's name.
-fn is_raised(exception: &UserException, told: &str) -> bool {
-    let (id, name) = told.split_once(' ').unwrap_or((told, ""));
+fn is_raised(exception: &UserException, content: &str) -> bool {
+    let (id, name) = content.split_once(' ').unwrap_or((content, ""));
     let policy = match exception {
         UserException::InvalidPolicyValue { policy } => policy.get().name.as_slice(),
         _ => b"".as_slice(),
@@ -38,8 +38,8 @@ fn is_raised(exception: &UserException, told: &str) -> bool {
 }
 
 /// Whether a reply is this: a word for its kind and what it holds, or a word alone.
-pub fn is_reply(reply: &Reply, told: &str) -> bool {
-    let (word, rest) = told.split_once(' ').unwrap_or((told, ""));
+pub fn is_reply(reply: &Reply, content: &str) -> bool {
+    let (word, rest) = content.split_once(' ').unwrap_or((content, ""));
     let (kind, is_held) = match reply {
         Reply::Nothing => ("done", rest.is_empty()),
         Reply::Truth(true) => ("TRUE", rest.is_empty()),
@@ -60,8 +60,8 @@ pub fn is_reply(reply: &Reply, told: &str) -> bool {
     kind == word && is_held
 }
 
-fn is_number(number: u32, told: &str) -> bool {
-    told.parse::<u32>() == Ok(number)
+fn is_number(number: u32, content: &str) -> bool {
+    content.parse::<u32>() == Ok(number)
 }
 
 fn rule_name(rule: FollowOption) -> &'static str {
@@ -117,23 +117,23 @@ fn have_names(properties: &[Property], words: &str) -> bool {
 }
 
 /// `TYPE;PROPERTIES`
-fn is_offer(info: &OfferInfo, told: &str) -> bool {
-    let (service_type, properties) = told.split_once(';').unwrap_or((told, ""));
+fn is_offer(info: &OfferInfo, content: &str) -> bool {
+    let (service_type, properties) = content.split_once(';').unwrap_or((content, ""));
     info.service_type.as_slice() == service_type.as_bytes()
         && have_names(info.properties.as_slice(), properties)
 }
 
 /// `TYPE;RECIPE` of one that matches whatever is asked.
-fn is_proxy(info: &ProxyInfo, told: &str) -> bool {
-    let (service_type, recipe) = told.split_once(';').unwrap_or((told, ""));
+fn is_proxy(info: &ProxyInfo, content: &str) -> bool {
+    let (service_type, recipe) = content.split_once(';').unwrap_or((content, ""));
     info.service_type.as_slice() == service_type.as_bytes()
         && info.recipe.as_slice() == recipe.as_bytes()
         && info.if_match_all
 }
 
 /// `DEFAULT LIMITING`
-fn has_rules(info: &LinkInfo, told: &str) -> bool {
-    let (def_pass_on, limiting) = told.split_once(' ').unwrap_or((told, ""));
+fn has_rules(info: &LinkInfo, content: &str) -> bool {
+    let (def_pass_on, limiting) = content.split_once(' ').unwrap_or((content, ""));
     rule_name(info.def_pass_on_follow_rule) == def_pass_on
         && rule_name(info.limiting_follow_rule) == limiting
 }
@@ -141,19 +141,19 @@ fn has_rules(info: &LinkInfo, told: &str) -> bool {
 /// Whether a query begins so: an outcome that refuses it, `repeat MARK`, `path LINK IDENTIFIER`, or
 /// `search IDENTIFIER MARK POINT OFFERS LINKS OVER` with how many offers and links are searched and how many policies
 /// are above their maximum.
-pub fn is_begun(answer: Result<Begin, Memory>, told: &str) -> bool {
+pub fn is_begun(answer: Result<Begin, Memory>, content: &str) -> bool {
     let begun = match &answer {
-        Ok(begin) => begins_so(begin, told),
+        Ok(begin) => begins_so(begin, content),
         Err(_) => false,
     };
     drop(answer);
     begun
 }
 
-fn begins_so(begin: &Begin, told: &str) -> bool {
-    let (word, rest) = told.split_once(' ').unwrap_or((told, ""));
+fn begins_so(begin: &Begin, content: &str) -> bool {
+    let (word, rest) = content.split_once(' ').unwrap_or((content, ""));
     match begin {
-        Begin::Refused(outcome) => is_outcome(outcome.get(), told),
+        Begin::Refused(outcome) => is_outcome(outcome.get(), content),
         Begin::Repeat(mark) => word == "repeat" && rest.parse::<u64>() == Ok(*mark),
         Begin::Search(local) => word == "search" && is_search(local.get(), rest),
         Begin::Path(local) => word == "path" && is_path(local.get(), rest),
@@ -161,8 +161,8 @@ fn begins_so(begin: &Begin, told: &str) -> bool {
 }
 
 /// The identifier, the mark, the point, and how many offers and links are searched and policies above their maximum.
-fn is_search(local: &Local, told: &str) -> bool {
-    let (identifier, numbers) = told.split_once(' ').unwrap_or((told, ""));
+fn is_search(local: &Local, content: &str) -> bool {
+    let (identifier, numbers) = content.split_once(' ').unwrap_or((content, ""));
     let mut words = numbers.split(' ');
     for number in [
         local.mark,
@@ -179,8 +179,8 @@ fn is_search(local: &Local, told: &str) -> bool {
 }
 
 /// The link and the identifier. A path is neither marked nor searched.
-fn is_path(local: &Local, told: &str) -> bool {
-    let (name, identifier) = told.split_once(' ').unwrap_or((told, ""));
+fn is_path(local: &Local, content: &str) -> bool {
+    let (name, identifier) = content.split_once(' ').unwrap_or((content, ""));
     match &local.path {
         Some(link) => link.name.as_slice() == name.as_bytes()
             && has_identifier(&local.identifier, identifier)

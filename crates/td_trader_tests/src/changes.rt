@@ -85,9 +85,9 @@ fn refused_then_changed(alloc: Global, store: &mut Store) -> Result<bool, Memory
     )
 }
 
-fn reads(alloc: Global, store: &Store, max_list: u32, told: &str) -> bool {
+fn reads(alloc: Global, store: &Store, max_list: u32, content: &str) -> bool {
     let look = Look::Get(Attribute::Number(NumberAttribute::MaxList));
-    is_shown(seek(alloc, store, &look), max_list, told)
+    is_shown(seek(alloc, store, &look), max_list, content)
 }
 
 /// A trader that accepts no change more: each kind answers IMP_LIMIT where nothing else refuses it, and else its first

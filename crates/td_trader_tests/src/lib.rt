@@ -6,8 +6,6 @@ mod alone;
 #[cfg(test)]
 mod answers;
 #[cfg(test)]
-mod asking;
-#[cfg(test)]
 mod changes;
 #[cfg(test)]
 mod exporting;
@@ -19,6 +17,8 @@ mod modifying;
 mod opening;
 #[cfg(test)]
 mod proxy_exporting;
+#[cfg(test)]
+mod queries;
 #[cfg(test)]
 mod register;
 #[cfg(test)]

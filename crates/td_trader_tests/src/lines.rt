@@ -2,8 +2,8 @@
 
 use crate::alone::is_alone;
 use crate::answers::{is_begun, is_outcome, is_reply};
-use crate::asking::{added_link, call};
 use crate::opening::opened;
+use crate::queries::{added_link, call};
 use std::alloc::Global;
 use std::process::Abort;
 use std::test::Fail;
@@ -64,17 +64,17 @@ fn first_wrong(alloc: Global, trader: &mut Trader, lines: &'static str) -> &'sta
 /// Whether a trader answers so: to a call, to the change that adds a link, or by what is looked for in the trader
 /// itself; or whether a query begins so at its store.
 fn is_so(alloc: Global, trader: &mut Trader, line: &str) -> bool {
-    let (asked, told) = line.split_once(" => ").unwrap_or((line, ""));
+    let (asked, content) = line.split_once(" => ").unwrap_or((line, ""));
     let (word, rest) = asked.split_once(' ').unwrap_or((asked, ""));
     match word {
-        "add_link" => links(alloc, trader, rest, told),
+        "add_link" => links(alloc, trader, rest, content),
         "links" => links_all(alloc, trader, rest),
-        "history" => is_history(alloc, trader.history(), told),
-        "point" => told.parse::<u64>() == Ok(trader.point()),
-        "marks" => told.parse::<u64>() == Ok(trader.marks()),
+        "history" => is_history(alloc, trader.history(), content),
+        "point" => content.parse::<u64>() == Ok(trader.point()),
+        "marks" => content.parse::<u64>() == Ok(trader.marks()),
         "reserve" => trader.reserve_change().is_ok(),
-        "begin" | "search" | "path" => is_alone(alloc, trader, word, call(alloc, rest), told),
-        _ => answers(alloc, trader, call(alloc, asked), told),
+        "begin" | "search" | "path" => is_alone(alloc, trader, word, call(alloc, rest), content),
+        _ => answers(alloc, trader, call(alloc, asked), content),
     }
 }
 
@@ -82,21 +82,25 @@ fn answers(
     alloc: Global,
     trader: &mut Trader,
     call: Result<Boxed<Call>, OpsFault>,
-    told: &str,
+    content: &str,
 ) -> bool {
     let Ok(call) = call else {
         return false;
     };
     match call.get() {
-        Call::Look(look) => is_shown(trader.look(look), trader.store().attributes.max_list, told),
-        Call::Query(query) => is_begun(trader.begin(query), told),
-        _ => changes(alloc, trader, call.into_inner(), told),
+        Call::Look(look) => is_shown(
+            trader.look(look),
+            trader.store().attributes.max_list,
+            content,
+        ),
+        Call::Query(query) => is_begun(trader.begin(query), content),
+        _ => changes(alloc, trader, call.into_inner(), content),
     }
 }
 
-fn changes(alloc: Global, trader: &mut Trader, call: Call, told: &str) -> bool {
+fn changes(alloc: Global, trader: &mut Trader, call: Call, content: &str) -> bool {
     match call {
-        Call::Change(change) => is_noted(alloc, trader, change, told),
+        Call::Change(change) => is_noted(alloc, trader, change, content),
         other => {
             drop(other);
             false
@@ -105,29 +109,29 @@ fn changes(alloc: Global, trader: &mut Trader, call: Call, told: &str) -> bool {
 }
 
 /// Whether a change is answered so, and stands at the end of the history with this reply where it is accepted.
-fn is_noted(alloc: Global, trader: &mut Trader, change: Change, told: &str) -> bool {
+fn is_noted(alloc: Global, trader: &mut Trader, change: Change, content: &str) -> bool {
     let before = trader.history().len();
-    if !is_answer(trader.change(change), told) {
+    if !is_answer(trader.change(change), content) {
         return false;
     }
     match &trader.history()[before..] {
         [] => true,
-        [entry] => is_kept(alloc, &entry.reply, told),
+        [entry] => is_kept(alloc, &entry.reply, content),
         _ => false,
     }
 }
 
 /// Whether a history's reply is this.
-fn is_kept(alloc: Global, kept: &ChangeReply, told: &str) -> bool {
+fn is_kept(alloc: Global, kept: &ChangeReply, content: &str) -> bool {
     match kept.reply(alloc) {
-        Ok(reply) => is_reply(&reply, told),
+        Ok(reply) => is_reply(&reply, content),
         Err(_) => false,
     }
 }
 
-pub fn is_answer(answer: Result<Outcome, Memory>, told: &str) -> bool {
+pub fn is_answer(answer: Result<Outcome, Memory>, content: &str) -> bool {
     let passed = match &answer {
-        Ok(outcome) => is_outcome(outcome, told),
+        Ok(outcome) => is_outcome(outcome, content),
         Err(_) => false,
     };
     drop(answer);
@@ -135,18 +139,18 @@ pub fn is_answer(answer: Result<Outcome, Memory>, told: &str) -> bool {
 }
 
 /// Whether a look is answered so, and with max_list.
-pub fn is_shown(answer: Result<(Outcome, u32), Memory>, max_list: u32, told: &str) -> bool {
+pub fn is_shown(answer: Result<(Outcome, u32), Memory>, max_list: u32, content: &str) -> bool {
     let passed = match &answer {
-        Ok((outcome, beside)) => is_outcome(outcome, told) && *beside == max_list,
+        Ok((outcome, beside)) => is_outcome(outcome, content) && *beside == max_list,
         Err(_) => false,
     };
     drop(answer);
     passed
 }
 
-fn links(alloc: Global, trader: &mut Trader, parts: &str, told: &str) -> bool {
+fn links(alloc: Global, trader: &mut Trader, parts: &str, content: &str) -> bool {
     match added_link(alloc, parts) {
-        Ok(change) => is_answer(trader.change(change), told),
+        Ok(change) => is_answer(trader.change(change), content),
         Err(_) => false,
     }
 }

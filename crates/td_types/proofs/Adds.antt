@@ -17,13 +17,14 @@ use Rattle.td_types.specs.Adding.{or_else, super_fault, supers_fault, name_fault
 use Rattle.td_types.specs.Adding.{definitions, inherited_definitions, new_type, with_type, passes_limit}
 use Rattle.td_types.specs.Calls.{add_fault, add_type, refuse}
 use Rattle.td_types.specs.Conforming.{walk, once, add_once, ancestors}
-use Rattle.td_types.specs.Judged.{AreBases, inherited, inherited_from, names_above}
-use Rattle.td_types.specs.Kept.{kept, repository, IsKept}
+use Rattle.td_types.specs.Judged.{AreBases, inherited_properties, inherited_from, names_above}
+use Rattle.td_types.specs.Kept.{entry_type, repository, IsValidEntry}
 use Rattle.td_types.specs.Properties.{full, full_properties, with_inherited}
-use Rattle.td_types.specs.Repository.{Repository, ServiceType, Declared, Founded, IsRepository, has_type, is_named}
+use Rattle.td_types.specs.Repository.{Repository, ServiceType, InterfaceBases, IsWellFounded, IsRepository, has_type}
+use Rattle.td_types.specs.Repository.{is_named}
 use Rattle.td_types.specs.Repository.{is_among, top}
 use Rattle.td_types.specs.Sought.{entry_named}
-use Rattle.td_types.specs.declared.entry.Entry.{Entry}
+use Rattle.td_types.specs.declared.entry.TypeEntry.{TypeEntry}
 use Rattle.td_types.specs.declared.fault.RepoFault.{RepoFault}
 use Rattle.td_types.specs.declared.fault.TypesFault.TheVariants.{Full}
 use Rattle.td_types.specs.declared.reply.TypesReply.TheVariants as reply
@@ -55,64 +56,64 @@ full_of_other types t name h = rw (youngest types t, h) refl
 
 -- ---- by the supertypes' entries
 
-found_name : (e x : Entry) (b : Bool) (later : Option Entry) (s : List ℕ) → (b ≡ true → x.service_type.name ≡ s)
+found_name : (e x : TypeEntry) (b : Bool) (later : Option TypeEntry) (s : List ℕ) → (b ≡ true → x.service_type.name ≡ s)
     → (later ≡ Some e → e.service_type.name ≡ s) → cond b (Some x) later ≡ Some e → e.service_type.name ≡ s
 found_name e x true later s here there h =
-    let same : x ≡ e = cc in ap (λ (y : Entry). y.service_type.name) (sym same) ∙ here refl
+    let same : x ≡ e = cc in ap (λ (y : TypeEntry). y.service_type.name) (sym same) ∙ here refl
 found_name e x false later s here there h = there h
 
 -- the entry of a name has that name
-pub name_of_found : (es : List Entry) (s : List ℕ) (e : Entry) → entry_named es s ≡ Some e → e.service_type.name ≡ s
+pub name_of_found : (es : List TypeEntry) (s : List ℕ) (e : TypeEntry) → entry_named es s ≡ Some e → e.service_type.name ≡ s
 name_of_found [] s e h = absurd (let bad : ⊥ = cc in bad)
 name_of_found (x ∷ es) s e h =
     found_name e x (bytes_eq x.service_type.name s) (entry_named es s) s (bytes_same x.service_type.name s)
     (name_of_found es s e) h
 
-first_of : (P : Entry → Type 0) (x e : Entry) (b : Bool) (later : Option Entry) → P x → (later ≡ Some e → P e)
+first_of : (P : TypeEntry → Type 0) (x e : TypeEntry) (b : Bool) (later : Option TypeEntry) → P x → (later ≡ Some e → P e)
     → cond b (Some x) later ≡ Some e → P e
 first_of P x e true later here there h = let same : x ≡ e = cc in subst P same here
 first_of P x e false later here there h = there h
 
-pub kept_found : (P : Entry → Type 0) (es : List Entry) (s : List ℕ) (e : Entry) → AllByRecursion P es
+pub kept_found : (P : TypeEntry → Type 0) (es : List TypeEntry) (s : List ℕ) (e : TypeEntry) → AllByRecursion P es
     → entry_named es s ≡ Some e → P e
 kept_found P [] s e all h = absurd (let bad : ⊥ = cc in bad)
 kept_found P (x ∷ es) s e all h =
     first_of P x e (bytes_eq x.service_type.name s) (entry_named es s) all.0 (kept_found P es s e all.1) h
 
-full_found : (types : List ServiceType) (s : List ℕ) (e : Entry) → IsKept types e → e.service_type.name ≡ s
+full_found : (types : List ServiceType) (s : List ℕ) (e : TypeEntry) → IsValidEntry types e → e.service_type.name ≡ s
     → full (reverse types) s ≡ e.full
 unfolding full_properties
 full_found types s e k same = rw (← same) (sym k.full)
 
 -- their full properties
-pub inherited_are : (es all : List Entry) (supers : List (List ℕ)) (bs : List Entry)
-    → AllByRecursion (IsKept (map kept all)) es → AreBases es supers bs
-    → flat_map (full (reverse (map kept all))) supers ≡ inherited bs
+pub inherited_are : (es all : List TypeEntry) (supers : List (List ℕ)) (bs : List TypeEntry)
+    → AllByRecursion (IsValidEntry (map entry_type all)) es → AreBases es supers bs
+    → flat_map (full (reverse (map entry_type all))) supers ≡ inherited_properties bs
 inherited_are es all [] [] k h = refl
 inherited_are es all [] (b ∷ bs) k h = absurd h
 inherited_are es all (s ∷ ss) [] k h = absurd h
 inherited_are es all (s ∷ ss) (b ∷ bs) k h =
     rw (
-      full_found (map kept all) s b (kept_found (IsKept (map kept all)) es s b k h.0) (name_of_found es s b h.0),
+      full_found (map entry_type all) s b (kept_found (IsValidEntry (map entry_type all)) es s b k h.0) (name_of_found es s b h.0),
       inherited_are es all ss bs k h.1,
     )
     refl
 
-definitions_found : (types : List ServiceType) (s : List ℕ) (e : Entry) → IsKept types e → e.service_type.name ≡ s
+definitions_found : (types : List ServiceType) (s : List ℕ) (e : TypeEntry) → IsValidEntry types e → e.service_type.name ≡ s
     → definitions s false (full_properties types s) ≡ definitions e.service_type.name false e.full
 definitions_found types s e k same = rw (← same, ← k.full) refl
 
 -- their definitions
-pub definitions_are : (es all : List Entry) (interfaces : Declared) (last : ℕ) (supers : List (List ℕ))
-    (bs : List Entry)
-    → AllByRecursion (IsKept (map kept all)) es → AreBases es supers bs
+pub definitions_are : (es all : List TypeEntry) (interfaces : InterfaceBases) (last : ℕ) (supers : List (List ℕ))
+    (bs : List TypeEntry)
+    → AllByRecursion (IsValidEntry (map entry_type all)) es → AreBases es supers bs
     → inherited_definitions (repository all interfaces last) supers ≡ inherited_from bs
 definitions_are es all interfaces last [] [] k h = refl
 definitions_are es all interfaces last [] (b ∷ bs) k h = absurd h
 definitions_are es all interfaces last (s ∷ ss) [] k h = absurd h
 definitions_are es all interfaces last (s ∷ ss) (b ∷ bs) k h =
     rw (
-      definitions_found (map kept all) s b (kept_found (IsKept (map kept all)) es s b k h.0)
+      definitions_found (map entry_type all) s b (kept_found (IsValidEntry (map entry_type all)) es s b k h.0)
           (name_of_found es s b h.0),
       definitions_are es all interfaces last ss bs k h.1,
     )
@@ -179,7 +180,7 @@ absorbs met before (x ∷ xs) =
     absorbs met (add_once before x) xs
     ∙ ap (λ (ns : List (List ℕ)). once ns xs) (one_when (is_among x before) met before x (λ h. h))
 
-walk_found : (types : List ServiceType) (s : List ℕ) (e : Entry) → IsKept types e → e.service_type.name ≡ s
+walk_found : (types : List ServiceType) (s : List ℕ) (e : TypeEntry) → IsValidEntry types e → e.service_type.name ≡ s
     → once [] (walk (reverse types) s) ≡ e.ancestors
 unfolding ancestors
 walk_found types s e k same = rw (← same) (sym k.ancestors)
@@ -197,16 +198,16 @@ above_step met rest_a rest_b walked kept_names s name same k h =
     )
     (h (once (add_once met s) walked))
 
-pub above_are : (es all : List Entry) (supers : List (List ℕ)) (bs : List Entry) (met : List (List ℕ))
-    → AllByRecursion (IsKept (map kept all)) es → AreBases es supers bs
-    → once met (flat_map (λ s. s ∷ walk (reverse (map kept all)) s) supers) ≡ once met (names_above bs)
+pub above_are : (es all : List TypeEntry) (supers : List (List ℕ)) (bs : List TypeEntry) (met : List (List ℕ))
+    → AllByRecursion (IsValidEntry (map entry_type all)) es → AreBases es supers bs
+    → once met (flat_map (λ s. s ∷ walk (reverse (map entry_type all)) s) supers) ≡ once met (names_above bs)
 above_are es all [] [] met k h = refl
 above_are es all [] (b ∷ bs) met k h = absurd h
 above_are es all (s ∷ ss) [] met k h = absurd h
 above_are es all (s ∷ ss) (b ∷ bs) met k h =
-    above_step met (flat_map (λ s. s ∷ walk (reverse (map kept all)) s) ss) (names_above bs)
-    (walk (reverse (map kept all)) s) b.ancestors s b.service_type.name (name_of_found es s b h.0)
-    (walk_found (map kept all) s b (kept_found (IsKept (map kept all)) es s b k h.0) (name_of_found es s b h.0))
+    above_step met (flat_map (λ s. s ∷ walk (reverse (map entry_type all)) s) ss) (names_above bs)
+    (walk (reverse (map entry_type all)) s) b.ancestors s b.service_type.name (name_of_found es s b h.0)
+    (walk_found (map entry_type all) s b (kept_found (IsValidEntry (map entry_type all)) es s b k h.0) (name_of_found es s b h.0))
     (λ m. above_are es all ss bs m k h.1)
 
 -- ---- what the others keep
@@ -215,8 +216,8 @@ none_left : (a b : Bool) → (a || b) ≡ false → (a ≡ false) × (b ≡ fals
 none_left true b h = absurd (let bad : ⊥ = cc in bad)
 none_left false b h = (refl, h)
 
-stays_kept : (types : List ServiceType) (t : ServiceType) (e : Entry) → bytes_eq e.service_type.name t.name ≡ false
-    → IsKept types e → IsKept (types ++ t ∷ []) e
+stays_kept : (types : List ServiceType) (t : ServiceType) (e : TypeEntry) → bytes_eq e.service_type.name t.name ≡ false
+    → IsValidEntry types e → IsValidEntry (types ++ t ∷ []) e
 stays_kept types t e h k =
     let other : bytes_eq t.name e.service_type.name ≡ false = bytes_eq-sym t.name e.service_type.name ∙ h in
     record {
@@ -224,14 +225,14 @@ stays_kept types t e h k =
       full = k.full ∙ sym (full_of_other types t e.service_type.name other);
     }
 
-pub stay_kept : (types : List ServiceType) (t : ServiceType) (es : List Entry) → has_type (map kept es) t.name ≡ false
-    → AllByRecursion (IsKept types) es → AllByRecursion (IsKept (types ++ t ∷ [])) es
+pub stay_kept : (types : List ServiceType) (t : ServiceType) (es : List TypeEntry) → has_type (map entry_type es) t.name ≡ false
+    → AllByRecursion (IsValidEntry types) es → AllByRecursion (IsValidEntry (types ++ t ∷ [])) es
 stay_kept types t [] h k = tt
 stay_kept types t (e ∷ es) h k =
-    let none = none_left (bytes_eq e.service_type.name t.name) (has_type (map kept es) t.name) h in
+    let none = none_left (bytes_eq e.service_type.name t.name) (has_type (map entry_type es) t.name) h in
     (stays_kept types t e none.0 k.0, stay_kept types t es none.1 k.1)
 
-pub All-snoc : (P : Entry → Type 0) (es : List Entry) (e : Entry) → AllByRecursion P es → P e
+pub All-snoc : (P : TypeEntry → Type 0) (es : List TypeEntry) (e : TypeEntry) → AllByRecursion P es → P e
     → AllByRecursion P (es ++ e ∷ [])
 All-snoc P [] e k h = (h, tt)
 All-snoc P (x ∷ es) e k h = (k.0, All-snoc P es e k.1 h)
@@ -250,35 +251,35 @@ any_last p (x ∷ xs) =
     ap (list_any p) (reverse-append (x ∷ []) xs)
     ∙ (list_any-append p (reverse xs) (x ∷ []) ∙ (rw (any_last p xs) (turned (list_any p xs) (p x))))
 
-some_found : (es : List Entry) (s : List ℕ) (b : Entry) → entry_named es s ≡ Some b → has_type (map kept es) s ≡ true
-some_found es s b h = is_found es s ∙ ap (λ (o : Option Entry). is_some o) h
+some_found : (es : List TypeEntry) (s : List ℕ) (b : TypeEntry) → entry_named es s ≡ Some b → has_type (map entry_type es) s ≡ true
+some_found es s b h = is_found es s ∙ ap (λ (o : Option TypeEntry). is_some o) h
 
-supers_known : (es : List Entry) (supers : List (List ℕ)) (bs : List Entry) → AreBases es supers bs
-    → All (λ s. IsTrue (has_type (reverse (map kept es)) s)) supers
-supers_known es [] [] h = All-nil (λ (s : List ℕ). IsTrue (has_type (reverse (map kept es)) s))
+supers_known : (es : List TypeEntry) (supers : List (List ℕ)) (bs : List TypeEntry) → AreBases es supers bs
+    → All (λ s. IsTrue (has_type (reverse (map entry_type es)) s)) supers
+supers_known es [] [] h = All-nil (λ (s : List ℕ). IsTrue (has_type (reverse (map entry_type es)) s))
 supers_known es [] (b ∷ bs) h = absurd h
 supers_known es (s ∷ ss) [] h = absurd h
 supers_known es (s ∷ ss) (b ∷ bs) h =
-    All-cons (λ (s : List ℕ). IsTrue (has_type (reverse (map kept es)) s)) s ss
-    (any_last (is_named s) (map kept es) ∙ some_found es s b h.0) (supers_known es ss bs h.1)
+    All-cons (λ (s : List ℕ). IsTrue (has_type (reverse (map entry_type es)) s)) s ss
+    (any_last (is_named s) (map entry_type es) ∙ some_found es s b h.0) (supers_known es ss bs h.1)
 
-with_new : (es : List Entry) (e : Entry) → reverse (map kept (es ++ e ∷ [])) ≡ kept e ∷ reverse (map kept es)
-with_new es e = ap reverse (map-append kept es (e ∷ [])) ∙ youngest (map kept es) (kept e)
+with_new : (es : List TypeEntry) (e : TypeEntry) → reverse (map entry_type (es ++ e ∷ [])) ≡ entry_type e ∷ reverse (map entry_type es)
+with_new es e = ap reverse (map-append entry_type es (e ∷ [])) ∙ youngest (map entry_type es) (entry_type e)
 
-pub still_valid : (es : List Entry) (interfaces : Declared) (last : ℕ) (e : Entry) (bs : List Entry)
-    → IsRepository (repository es interfaces last) → has_type (map kept es) e.service_type.name ≡ false
+pub still_valid : (es : List TypeEntry) (interfaces : InterfaceBases) (last : ℕ) (e : TypeEntry) (bs : List TypeEntry)
+    → IsRepository (repository es interfaces last) → has_type (map entry_type es) e.service_type.name ≡ false
     → AreBases es e.service_type.supers bs → e.service_type.incarnation ≡ last + 1
     → IsRepository (repository (es ++ e ∷ []) interfaces e.service_type.incarnation)
 still_valid es interfaces last e bs v fresh h inc =
-    let counted : top (reverse (map kept es)) ≤ last = v.counted in
-    let founded : Founded (kept e ∷ reverse (map kept es)) =
-    Founded.more (kept e) (reverse (map kept es)) (any_last (is_named e.service_type.name) (map kept es) ∙ fresh)
+    let counted : top (reverse (map entry_type es)) ≤ last = v.counted in
+    let founded : IsWellFounded (entry_type e ∷ reverse (map entry_type es)) =
+    IsWellFounded.more (entry_type e) (reverse (map entry_type es)) (any_last (is_named e.service_type.name) (map entry_type es) ∙ fresh)
     (supers_known es e.service_type.supers bs h) (rw inc (omega (arith, counted))) v.founded in
     record { founded = rw (with_new es e) founded; counted = rw (with_new es e) (omega arith) }
 
 -- ---- why it isn't added
 
-supers_last : (es : List Entry) (interfaces : Declared) (a b : ℕ) (name if_name : List ℕ) (before ss : List (List ℕ))
+supers_last : (es : List TypeEntry) (interfaces : InterfaceBases) (a b : ℕ) (name if_name : List ℕ) (before ss : List (List ℕ))
     → supers_fault (repository es interfaces a) name if_name before ss
     ≡ supers_fault (repository es interfaces b) name if_name before ss
 supers_last es interfaces a b name if_name before [] = refl
@@ -287,7 +288,7 @@ supers_last es interfaces a b name if_name before (s ∷ ss) =
     (supers_last es interfaces a b name if_name (s ∷ before) ss)
 
 -- the last incarnation plays no part in it
-pub add_fault_last : (es : List Entry) (interfaces : Declared) (a b : ℕ) (name if_name : List ℕ)
+pub add_fault_last : (es : List TypeEntry) (interfaces : InterfaceBases) (a b : ℕ) (name if_name : List ℕ)
     (props : List PropStruct) (ss : List (List ℕ))
     → add_fault (repository es interfaces a) name if_name props ss
     ≡ add_fault (repository es interfaces b) name if_name props ss
@@ -316,11 +317,11 @@ name_free false h x y e = absurd (let bad : ⊥ = cc in bad)
 name_free true true x y e = absurd (let bad : ⊥ = cc in bad)
 name_free true false x y e = refl
 
-pub is_fresh : (es : List Entry) (interfaces : Declared) (name if_name : List ℕ) (props : List PropStruct)
+pub is_fresh : (es : List TypeEntry) (interfaces : InterfaceBases) (name if_name : List ℕ) (props : List PropStruct)
     (ss : List (List ℕ))
-    → add_fault (repository es interfaces 0) name if_name props ss ≡ None → has_type (map kept es) name ≡ false
+    → add_fault (repository es interfaces 0) name if_name props ss ≡ None → has_type (map entry_type es) name ≡ false
 is_fresh es interfaces name if_name props ss h =
-    name_free (word_name name) (has_type (map kept es) name) _ _
+    name_free (word_name name) (has_type (map entry_type es) name) _ _
     (first_none (name_fault (repository es interfaces 0) name) _ h)
 
 -- ---- limits

@@ -14,14 +14,15 @@ use Rattle.td_value.specs.declared.enumerations.PropertyMode.{PropertyMode}
 use Rattle.td_value.specs.declared.enumerations.PropertyMode.TheVariants.{Normal, Readonly, Mandatory}
 use Rattle.td_value.specs.declared.enumerations.PropertyMode.TheVariants.{MandatoryReadonly}
 use Rattle.td_value.specs.declared.structures.PropStruct.{PropStruct}
-use Rattle.td_types.specs.Calls.{Comes, refuse, act_on, known, describe_type}
+use Rattle.td_types.specs.Calls.{RepositoryResult, refuse, act_on, on_type, describe_type}
 use Rattle.td_types.specs.Calls.{fully_describe_type, without, sub_type, remove_unless, remove_type, set_mask}
 use Rattle.td_types.specs.Calls.{mask_type, unmask_type, is_listed, list_types}
 use Rattle.td_types.specs.Conforming.{add_once, once, walk, ancestors}
 use Rattle.td_types.specs.Descriptions.{description, full_description}
-use Rattle.td_types.specs.Properties.{has_property, joined_mode, newcomers, strengthened, with_inherited}
+use Rattle.td_types.specs.Properties.{has_property, joined_mode, newcomers, with_stronger_mode, with_inherited}
 use Rattle.td_types.specs.Properties.{full, full_properties}
-use Rattle.td_types.specs.Repository.{Repository, ServiceType, Declared, IsRepository, is_named, is_among, type_named}
+use Rattle.td_types.specs.Repository.{Repository, ServiceType, InterfaceBases, IsRepository, is_named, is_among}
+use Rattle.td_types.specs.Repository.{type_named}
 use Rattle.td_types.specs.Repository.{has_type}
 use Rattle.td_types.specs.Writable.{IsWritableType, IsCounted, IsWritable}
 use Rattle.td_types.specs.Writable.{StaysWritable}
@@ -73,8 +74,8 @@ newcomers-each own (p ∷ ps) h =
 inherited-each : (own inherited : List PropStruct) → AreProperties own → AreProperties inherited
     → AreProperties (with_inherited own inherited)
 inherited-each own inherited h k =
-    each-append prop_struct.format.admits own (map (strengthened inherited) (newcomers own inherited)) h
-    (each-map prop_struct.format.admits prop_struct.format.admits (strengthened inherited) (newcomers own inherited)
+    each-append prop_struct.format.admits own (map (with_stronger_mode inherited) (newcomers own inherited)) h
+    (each-map prop_struct.format.admits prop_struct.format.admits (with_stronger_mode inherited) (newcomers own inherited)
     (λ p. with-mode p (joined_mode inherited p.name)) (newcomers-each own inherited k))
 
 full-each : (ts : List ServiceType) → AreTypes ts → (name : List ℕ) → AreProperties (full ts name)
@@ -129,16 +130,16 @@ fully-written r t w h = (h.described.0, (properties-written r t.name w, (above-w
 
 -- ---- a type by its name
 
-known-when : (b : Bool) (found : Option ServiceType) (name : List ℕ) (act : ServiceType → Comes)
+known-when : (b : Bool) (found : Option ServiceType) (name : List ℕ) (act : ServiceType → RepositoryResult)
     → text.format.admits name → ((t : ServiceType) → found ≡ Some t → StaysWritable (act t))
     → StaysWritable (cond b (act_on found name act) (refuse (fault.IllegalServiceType name)))
 known-when true None name act n h = n
 known-when true (Some t) name act n h = h t refl
 known-when false found name act n h = n
 
-known-written : (r : Repository) (name : List ℕ) (act : ServiceType → Comes) → IsWritable r → text.format.admits name
+known-written : (r : Repository) (name : List ℕ) (act : ServiceType → RepositoryResult) → IsWritable r → text.format.admits name
     → ((t : ServiceType) → type_named r.types name ≡ Some t → IsWritableType t → StaysWritable (act t))
-    → StaysWritable (known r name act)
+    → StaysWritable (on_type r name act)
 known-written r name act w n h =
     known-when (word_name name) (type_named r.types name) name act n
     (λ t e. h t e (each-found IsWritableType (is_named name) r.types t w.types e))
@@ -173,7 +174,7 @@ list-written r since w =
 
 -- ---- no types
 
-pub new-written : (interfaces : Declared) → IsWritable (record { types = []; interfaces = interfaces; last = 0 })
+pub new-written : (interfaces : InterfaceBases) → IsWritable (record { types = []; interfaces = interfaces; last = 0 })
 unfolding full_properties ancestors
 new-written interfaces = record {
   types = tt;
@@ -210,7 +211,7 @@ mask-written r name masked w =
       };
     }
 
-choice : (b : Bool) (x y : Comes) → StaysWritable x → StaysWritable y → StaysWritable (cond b x y)
+choice : (b : Bool) (x y : RepositoryResult) → StaysWritable x → StaysWritable y → StaysWritable (cond b x y)
 choice true x y h k = h
 choice false x y h k = k
 
@@ -218,7 +219,7 @@ pub masking-written : (r : Repository) (name : List ℕ) → IsWritable r → te
     → StaysWritable (mask_type r name)
 unfolding mask_type
 masking-written r name w n =
-    let after : Comes = Ok (reply.Masked, set_mask r name true) in
+    let after : RepositoryResult = Ok (reply.Masked, set_mask r name true) in
     known-written r name (λ t. cond t.masked (refuse (fault.AlreadyMasked name)) after) w n
     (λ t e h. choice t.masked (refuse (fault.AlreadyMasked name)) after n (tt, mask-written r name true w))
 
@@ -226,7 +227,7 @@ pub unmasking-written : (r : Repository) (name : List ℕ) → IsWritable r → 
     → StaysWritable (unmask_type r name)
 unfolding unmask_type
 unmasking-written r name w n =
-    let after : Comes = Ok (reply.Unmasked, set_mask r name false) in
+    let after : RepositoryResult = Ok (reply.Unmasked, set_mask r name false) in
     known-written r name (λ t. cond t.masked after (refuse (fault.NotMasked name))) w n
     (λ t e h. choice t.masked after (refuse (fault.NotMasked name)) (tt, mask-written r name false w) n)
 

@@ -3,7 +3,8 @@ use Rattle.std.proofs.Common.{◌≡◌, ℕ, Bool, true, false, cond, List, Opt
 use Rattle.td_cdr.specs.Names.{word_name}
 use Rattle.td_value.specs.declared.structures.PropStruct.{PropStruct}
 use Rattle.td_types.specs.Adding.{new_type, with_type, passes_limit}
-use Rattle.td_types.specs.Calls.{Comes, refuse, unless, act_on, known, add_fault, add_type, remove_unless, sub_type}
+use Rattle.td_types.specs.Calls.{RepositoryResult, refuse, unless, act_on, on_type, add_fault, add_type, remove_unless}
+use Rattle.td_types.specs.Calls.{sub_type}
 use Rattle.td_types.specs.Calls.{set_mask, remove_type, mask_type, unmask_type, list_types, describe_type}
 use Rattle.td_types.specs.Calls.{fully_describe_type}
 use Rattle.td_types.specs.Repository.{Repository, ServiceType, type_named}
@@ -12,30 +13,30 @@ use Rattle.td_types.specs.declared.fault.RepoFault.TheVariants as fault
 use Rattle.td_types.specs.declared.fault.TypesFault.TheVariants.{User, Full, Memory}
 use Rattle.td_types.specs.declared.reply.TypesReply.TheVariants as reply
 
-abbrev IsAnswered : Comes → Type 0
+abbrev IsAnswered : RepositoryResult → Type 0
 IsAnswered (Ok answer) = Unit {0}
 IsAnswered (Err (User f)) = Unit {0}
 IsAnswered (Err Full) = Unit {0}
 IsAnswered (Err Memory) = ⊥
 
-never : (comes : Comes) → IsAnswered comes → comes ≡ Err Memory → ⊥
+never : (comes : RepositoryResult) → IsAnswered comes → comes ≡ Err Memory → ⊥
 never comes h e = subst IsAnswered e h
 
-when : (b : Bool) (x y : Comes) → IsAnswered x → IsAnswered y → IsAnswered (cond b x y)
+when : (b : Bool) (x y : RepositoryResult) → IsAnswered x → IsAnswered y → IsAnswered (cond b x y)
 when true x y h k = h
 when false x y h k = k
 
-unless-answered : (o : Option RepoFault) (comes : Comes) → IsAnswered comes → IsAnswered (unless o comes)
+unless-answered : (o : Option RepoFault) (comes : RepositoryResult) → IsAnswered comes → IsAnswered (unless o comes)
 unless-answered None comes h = h
 unless-answered (Some f) comes h = tt
 
-act-answered : (o : Option ServiceType) (name : List ℕ) (act : ServiceType → Comes)
+act-answered : (o : Option ServiceType) (name : List ℕ) (act : ServiceType → RepositoryResult)
     → ((t : ServiceType) → IsAnswered (act t)) → IsAnswered (act_on o name act)
 act-answered None name act h = tt
 act-answered (Some t) name act h = h t
 
-known-answered : (r : Repository) (name : List ℕ) (act : ServiceType → Comes)
-    → ((t : ServiceType) → IsAnswered (act t)) → IsAnswered (known r name act)
+known-answered : (r : Repository) (name : List ℕ) (act : ServiceType → RepositoryResult)
+    → ((t : ServiceType) → IsAnswered (act t)) → IsAnswered (on_type r name act)
 known-answered r name act h =
     when (word_name name) (act_on (type_named r.types name) name act) (refuse (fault.IllegalServiceType name))
     (act-answered (type_named r.types name) name act h) tt
@@ -45,7 +46,7 @@ pub adding-answered : (r : Repository) (name if_name : List ℕ) (props : List P
 unfolding add_type
 adding-answered r name if_name props supers =
     let t = new_type r name if_name props supers in
-    let comes : Comes = cond (passes_limit (with_type r t) t) (Err Full)
+    let comes : RepositoryResult = cond (passes_limit (with_type r t) t) (Err Full)
     (Ok (reply.Added t.incarnation, with_type r t)) in
     never (unless (add_fault r name if_name props supers) comes)
     (unless-answered (add_fault r name if_name props supers) comes
@@ -58,24 +59,24 @@ removes r t (Some sub) = tt
 pub removing-answered : (r : Repository) (name : List ℕ) → remove_type r name ≡ Err Memory → ⊥
 unfolding remove_type
 removing-answered r name =
-    never (known r name (λ t. remove_unless r t (sub_type r name)))
+    never (on_type r name (λ t. remove_unless r t (sub_type r name)))
     (known-answered r name (λ t. remove_unless r t (sub_type r name)) (λ t. removes r t (sub_type r name)))
 
 pub masking-answered : (r : Repository) (name : List ℕ) → mask_type r name ≡ Err Memory → ⊥
 unfolding mask_type
 masking-answered r name =
-    let act : ServiceType → Comes =
+    let act : ServiceType → RepositoryResult =
     λ t. cond t.masked (refuse (fault.AlreadyMasked name)) (Ok (reply.Masked, set_mask r name true)) in
-    never (known r name act)
+    never (on_type r name act)
     (known-answered r name act
     (λ t. when t.masked (refuse (fault.AlreadyMasked name)) (Ok (reply.Masked, set_mask r name true)) tt tt))
 
 pub unmasking-answered : (r : Repository) (name : List ℕ) → unmask_type r name ≡ Err Memory → ⊥
 unfolding unmask_type
 unmasking-answered r name =
-    let act : ServiceType → Comes =
+    let act : ServiceType → RepositoryResult =
     λ t. cond t.masked (Ok (reply.Unmasked, set_mask r name false)) (refuse (fault.NotMasked name)) in
-    never (known r name act)
+    never (on_type r name act)
     (known-answered r name act
     (λ t. when t.masked (Ok (reply.Unmasked, set_mask r name false)) (refuse (fault.NotMasked name)) tt tt))
 

@@ -13,12 +13,12 @@ use Rattle.td_types.proofs.Named.{is_found}
 use Rattle.td_types.proofs.Outcomes.{walks-when, met, met-from, has-super, conforms-itself, conforms-on}
 use Rattle.td_types.proofs.Others.{any-reverse}
 use Rattle.td_types.proofs.Subtypes.{ancestor-walked}
-use Rattle.td_types.specs.Conforming.{IsSuper, Leads, Conforms, walk, ancestors, conforms}
+use Rattle.td_types.specs.Conforming.{IsSuper, IsSuperPath, Conforms, walk, ancestors, conforms}
 use Rattle.td_types.specs.Judged.{AreKept}
-use Rattle.td_types.specs.Kept.{kept, IsKept, is_below}
-use Rattle.td_types.specs.Repository.{ServiceType, Founded, has_type, is_named, type_named, is_among}
+use Rattle.td_types.specs.Kept.{entry_type, IsValidEntry, is_below}
+use Rattle.td_types.specs.Repository.{ServiceType, IsWellFounded, has_type, is_named, type_named, is_among}
 use Rattle.td_types.specs.Sought.{entry_named}
-use Rattle.td_types.specs.declared.entry.Entry.{Entry}
+use Rattle.td_types.specs.declared.entry.TypeEntry.{TypeEntry}
 
 -- ---- the types of names
 
@@ -57,9 +57,9 @@ joined_when false t None h = refl
 joined_when false t (Some x) h = refl
 
 -- the order in which the types are listed plays no part
-find_turned : {ts : List ServiceType} → Founded ts → (a : List ℕ) → type_named (reverse ts) a ≡ type_named ts a
-find_turned Founded.none a = refl
-find_turned (Founded.more t older fresh supers higher f) a =
+find_turned : {ts : List ServiceType} → IsWellFounded ts → (a : List ℕ) → type_named (reverse ts) a ≡ type_named ts a
+find_turned IsWellFounded.none a = refl
+find_turned (IsWellFounded.more t older fresh supers higher f) a =
     let turned : type_named (reverse (t ∷ older)) a
     ≡ option_or (type_named (reverse older) a) (cond (is_named a t) (Some t) None) =
     ap (λ (types : List ServiceType). type_named types a) (reverse-append (t ∷ []) older)
@@ -77,13 +77,13 @@ super_older t older a b fresh s =
     record { type = s.type; found = rw other s.found; declared = s.declared }
 
 leads_older : (t : ServiceType) (older : List ServiceType) (a : List ℕ) (cs : List (List ℕ)) (b : List ℕ)
-    → has_type older t.name ≡ false → Leads older a cs b → Leads (t ∷ older) a cs b
+    → has_type older t.name ≡ false → IsSuperPath older a cs b → IsSuperPath (t ∷ older) a cs b
 leads_older t older a [] b fresh l = (or_right (is_named a t) (has_type older a) l.0, l.1)
 leads_older t older a (c ∷ cs) b fresh l = (super_older t older a c fresh l.0, leads_older t older c cs b fresh l.1)
 
-walk_leads : {ts : List ServiceType} → Founded ts → (a b : List ℕ) → is_among b (walk ts a) ≡ true → Conforms ts a b
-walk_leads Founded.none a b h = absurd (false≢true h)
-walk_leads (Founded.more t older fresh supers higher f) a b h =
+walk_leads : {ts : List ServiceType} → IsWellFounded ts → (a b : List ℕ) → is_among b (walk ts a) ≡ true → Conforms ts a b
+walk_leads IsWellFounded.none a b h = absurd (false≢true h)
+walk_leads (IsWellFounded.more t older fresh supers higher f) a b h =
     elim (cases_Bool (is_named a t)) [
       | inr other ↦
           let k : Conforms older a b =
@@ -113,18 +113,18 @@ walk_leads (Founded.more t older fresh supers higher f) a b h =
           ]
     ]
 
-any_turned : {ts : List ServiceType} → Founded ts → (a : List ℕ) → has_type ts a ≡ true → has_type (reverse ts) a ≡ true
+any_turned : {ts : List ServiceType} → IsWellFounded ts → (a : List ℕ) → has_type ts a ≡ true → has_type (reverse ts) a ≡ true
 any_turned {ts} f a h = any-reverse (is_named a) ts ∙ h
 
-leads_turned : {ts : List ServiceType} → Founded ts → (a : List ℕ) (cs : List (List ℕ)) (b : List ℕ) → Leads ts a cs b
-    → Leads (reverse ts) a cs b
+leads_turned : {ts : List ServiceType} → IsWellFounded ts → (a : List ℕ) (cs : List (List ℕ)) (b : List ℕ) → IsSuperPath ts a cs b
+    → IsSuperPath (reverse ts) a cs b
 leads_turned f a [] b l = (any_turned f a l.0, l.1)
 leads_turned f a (c ∷ cs) b l = (
   record { type = l.0.type; found = find_turned f a ∙ l.0.found; declared = l.0.declared },
   leads_turned f c cs b l.1,
 )
 
-pub chain_of : (types : List ServiceType) (a b : List ℕ) → Founded (reverse types) → conforms types a b ≡ true
+pub chain_of : (types : List ServiceType) (a b : List ℕ) → IsWellFounded (reverse types) → conforms types a b ≡ true
     → Conforms types a b
 chain_of types a b f h =
     let p = and_parts (has_type types a) (bytes_eq a b || is_among b (ancestors types a)) h in
@@ -136,7 +136,7 @@ chain_of types a b f h =
             names = k.names;
             leads =
                 subst
-                (λ (ts : List ServiceType). Leads ts a k.names b)
+                (λ (ts : List ServiceType). IsSuperPath ts a k.names b)
                 (reverse-reverse types)
                 (leads_turned f a k.names b k.leads);
           }
@@ -154,10 +154,10 @@ later_type_when : (b : Bool) (x t : ServiceType) (later : Option ServiceType) �
 later_type_when true x t later e h = absurd (false≢true (sym e))
 later_type_when false x t later e h = h
 
-walk_super : {ts : List ServiceType} → Founded ts → (a c : List ℕ) (type : ServiceType) → type_named ts a ≡ Some type
+walk_super : {ts : List ServiceType} → IsWellFounded ts → (a c : List ℕ) (type : ServiceType) → type_named ts a ≡ Some type
     → is_among c type.supers ≡ true → is_among c (walk ts a) ≡ true
-walk_super Founded.none a c type h d = absurd (let bad : ⊥ = cc in bad)
-walk_super (Founded.more t older fresh supers higher f) a c type h d =
+walk_super IsWellFounded.none a c type h d = absurd (let bad : ⊥ = cc in bad)
+walk_super (IsWellFounded.more t older fresh supers higher f) a c type h d =
     elim (cases_Bool (is_named a t)) [
       | inr other ↦ rw other (walk_super f a c type (later_type_when (is_named a t) t type (type_named older a) other h)
           d)
@@ -168,7 +168,7 @@ walk_super (Founded.more t older fresh supers higher f) a c type h d =
           (or_left (bytes_eq c c) (is_among c (walk older c)) (bytes_refl c)))
     ]
 
-super_conforms : (types : List ServiceType) (a c : List ℕ) → Founded (reverse types) → IsSuper types a c
+super_conforms : (types : List ServiceType) (a c : List ℕ) → IsWellFounded (reverse types) → IsSuper types a c
     → conforms types a c ≡ true
 super_conforms types a c f s =
     let found : type_named (reverse types) a ≡ Some s.type =
@@ -177,47 +177,47 @@ super_conforms types a c f s =
     (or_right (bytes_eq a c) (is_among c (ancestors types a))
     (ancestor-walked types a c ∙ walk_super f a c s.type found s.declared))
 
-leads_conform : (types : List ServiceType) (a : List ℕ) (cs : List (List ℕ)) (b : List ℕ) → Founded (reverse types)
-    → Leads types a cs b → conforms types a b ≡ true
+leads_conform : (types : List ServiceType) (a : List ℕ) (cs : List (List ℕ)) (b : List ℕ) → IsWellFounded (reverse types)
+    → IsSuperPath types a cs b → conforms types a b ≡ true
 leads_conform types a [] b f l = subst (λ (n : List ℕ). conforms types a n ≡ true) l.1 (conforms-itself types a l.0)
 leads_conform types a (c ∷ cs) b f l =
     conforms-on types a c b f (super_conforms types a c f l.0) (leads_conform types c cs b f l.1)
 
-pub of_chain : (types : List ServiceType) (a b : List ℕ) → Founded (reverse types) → Conforms types a b
+pub of_chain : (types : List ServiceType) (a b : List ℕ) → IsWellFounded (reverse types) → Conforms types a b
     → conforms types a b ≡ true
 of_chain types a b f k = leads_conform types a k.names b f k.leads
 
 -- ---- by the entries
 
-ancestors_found : (types : List ServiceType) (a : List ℕ) (e : Entry) → IsKept types e → e.service_type.name ≡ a
+ancestors_found : (types : List ServiceType) (a : List ℕ) (e : TypeEntry) → IsValidEntry types e → e.service_type.name ≡ a
     → ancestors types a ≡ e.ancestors
 ancestors_found types a e k same = rw (← same) (sym k.ancestors)
 
-pub by_entry : (es : List Entry) (a b : List ℕ) (e : Entry) → AreKept es → entry_named es a ≡ Some e
-    → (bytes_eq a b || is_among b e.ancestors) ≡ conforms (map kept es) a b
+pub by_entry : (es : List TypeEntry) (a b : List ℕ) (e : TypeEntry) → AreKept es → entry_named es a ≡ Some e
+    → (bytes_eq a b || is_among b e.ancestors) ≡ conforms (map entry_type es) a b
 by_entry es a b e k h =
-    let there : has_type (map kept es) a ≡ true = is_found es a ∙ ap (λ (o : Option Entry). is_some o) h in
+    let there : has_type (map entry_type es) a ≡ true = is_found es a ∙ ap (λ (o : Option TypeEntry). is_some o) h in
     rw (
       there,
-      ancestors_found (map kept es) a e (kept_found (IsKept (map kept es)) es a e k h)
+      ancestors_found (map entry_type es) a e (kept_found (IsValidEntry (map entry_type es)) es a e k h)
           (name_of_found es a e h),
     )
     refl
 
-pub no_entry : (es : List Entry) (a b : List ℕ) → entry_named es a ≡ None → false ≡ conforms (map kept es) a b
+pub no_entry : (es : List TypeEntry) (a b : List ℕ) → entry_named es a ≡ None → false ≡ conforms (map entry_type es) a b
 no_entry es a b h =
-    let there : has_type (map kept es) a ≡ false = is_found es a ∙ ap (λ (o : Option Entry). is_some o) h in
+    let there : has_type (map entry_type es) a ≡ false = is_found es a ∙ ap (λ (o : Option TypeEntry). is_some o) h in
     rw there refl
 
-pub below_conforms : (es : List Entry) (a b : List ℕ) (e : Entry) → AreKept es → entry_named es a ≡ Some e
-    → is_below b e ≡ conforms (map kept es) a b
+pub below_conforms : (es : List TypeEntry) (a b : List ℕ) (e : TypeEntry) → AreKept es → entry_named es a ≡ Some e
+    → is_below b e ≡ conforms (map entry_type es) a b
 below_conforms es a b e k h =
     ap (λ (n : List ℕ). bytes_eq n b || is_among b e.ancestors) (name_of_found es a e h) ∙ by_entry es a b e k h
 
 -- the test is the chain
-pub chain_iff : (es : List Entry) (a sub b base : List ℕ) (r : Bool) → Founded (reverse (map kept es)) → sub ≡ a
-    → base ≡ b → r ≡ conforms (map kept es) sub base
-    → (r ≡ true → Conforms (map kept es) a b) × (Conforms (map kept es) a b → r ≡ true)
+pub chain_iff : (es : List TypeEntry) (a sub b base : List ℕ) (r : Bool) → IsWellFounded (reverse (map entry_type es)) → sub ≡ a
+    → base ≡ b → r ≡ conforms (map entry_type es) sub base
+    → (r ≡ true → Conforms (map entry_type es) a b) × (Conforms (map entry_type es) a b → r ≡ true)
 chain_iff es a sub b base r f q s is =
-    let told : r ≡ conforms (map kept es) a b = rw (q, s) at is in
-    (λ h. chain_of (map kept es) a b f (sym told ∙ h), λ k. told ∙ of_chain (map kept es) a b f k)
+    let content : r ≡ conforms (map entry_type es) a b = rw (q, s) at is in
+    (λ h. chain_of (map entry_type es) a b f (sym content ∙ h), λ k. content ∙ of_chain (map entry_type es) a b f k)

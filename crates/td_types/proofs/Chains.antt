@@ -9,7 +9,7 @@ use Rattle.std.specs.Str.{bytes_eq}
 use Rattle.std.proofs.lemmas.Slice.Eq.{bytes_eq-Decides}
 use Rattle.std.proofs.lemmas.Bool.{false≢true, both_ways, eqb-true, cases_Bool, or_cases, or_left, or_right, and_parts}
 use Rattle.std.proofs.lemmas.Bool.{and_from}
-use Rattle.td_types.specs.Repository.{Declared, is_among}
+use Rattle.td_types.specs.Repository.{InterfaceBases, is_among}
 use Rattle.td_types.specs.Interfaces.{some_base, is_base, IsChain, LeadsTo, InterfaceConforms, leads_within}
 use Rattle.td_types.specs.Interfaces.{interface_conforms}
 
@@ -40,7 +40,7 @@ any-from test (x ∷ ids) id h t =
       | inr there ↦ or_right (test x) (list_any test ids) (any-from test ids id there t)
     ]
 
-pub base-found : (declared : Declared) (id : List ℕ) (test : List ℕ → Bool) → some_base declared id test ≡ true
+pub base-found : (declared : InterfaceBases) (id : List ℕ) (test : List ℕ → Bool) → some_base declared id test ≡ true
     → (base : List ℕ) × (is_base declared id base ≡ true) × (test base ≡ true)
 base-found [] id test h = absurd (false≢true h)
 base-found (entry ∷ declared) id test h =
@@ -58,7 +58,7 @@ base-found (entry ∷ declared) id test h =
           (f.0, or_right (bytes_eq entry.0 id && is_among f.0 entry.1) (is_base declared id f.0) f.1, f.2)
     ]
 
-pub base-from : (declared : Declared) (id : List ℕ) (test : List ℕ → Bool) (base : List ℕ)
+pub base-from : (declared : InterfaceBases) (id : List ℕ) (test : List ℕ → Bool) (base : List ℕ)
     → is_base declared id base ≡ true → test base ≡ true → some_base declared id test ≡ true
 base-from [] id test base h t = absurd (false≢true h)
 base-from (entry ∷ declared) id test base h t =
@@ -74,11 +74,11 @@ base-from (entry ∷ declared) id test base h t =
 
 -- ---- without the declarations of one interface
 
-without : List ℕ → Declared → Declared
+without : List ℕ → InterfaceBases → InterfaceBases
 without id [] = []
 without id (entry ∷ declared) = cond (bytes_eq entry.0 id) (without id declared) (entry ∷ without id declared)
 
-length-without : (id : List ℕ) (declared : Declared) → length (without id declared) ≤ length declared
+length-without : (id : List ℕ) (declared : InterfaceBases) → length (without id declared) ≤ length declared
 unfolding without
 length-without id [] = omega arith
 length-without id (entry ∷ declared) =
@@ -88,7 +88,7 @@ length-without id (entry ∷ declared) =
       | inr other ↦ rw other (omega (arith, i))
     ]
 
-without-shorter : (id base : List ℕ) (declared : Declared) → is_base declared id base ≡ true
+without-shorter : (id base : List ℕ) (declared : InterfaceBases) → is_base declared id base ≡ true
     → length (without id declared) < length declared
 unfolding without
 without-shorter id base [] h = absurd (false≢true h)
@@ -107,7 +107,7 @@ without-shorter id base (entry ∷ declared) h =
     ]
 
 -- a base of another interface stays one
-base-kept : (id other base : List ℕ) (declared : Declared) → (other ≡ id → ⊥) → is_base declared other base ≡ true
+base-kept : (id other base : List ℕ) (declared : InterfaceBases) → (other ≡ id → ⊥) → is_base declared other base ≡ true
     → is_base (without id declared) other base ≡ true
 unfolding without
 base-kept id other base [] n h = absurd (false≢true h)
@@ -132,7 +132,7 @@ base-kept id other base (entry ∷ declared) n h =
     ]
 
 -- and is one of what was declared
-base-was : (id other base : List ℕ) (declared : Declared) → is_base (without id declared) other base ≡ true
+base-was : (id other base : List ℕ) (declared : InterfaceBases) → is_base (without id declared) other base ≡ true
     → is_base declared other base ≡ true
 unfolding without
 base-was id other base [] h = h
@@ -150,7 +150,7 @@ base-was id other base (entry ∷ declared) h =
     ]
 
 -- the interface itself has none left
-base-gone : (id base : List ℕ) (declared : Declared) → is_base (without id declared) id base ≡ true → ⊥
+base-gone : (id base : List ℕ) (declared : InterfaceBases) → is_base (without id declared) id base ≡ true → ⊥
 unfolding without
 base-gone id base [] h = false≢true h
 base-gone id base (entry ∷ declared) h =
@@ -167,7 +167,7 @@ base-gone id base (entry ∷ declared) h =
 
 -- ---- chains within so many steps
 
-pub within-reflexive : (steps : ℕ) (declared : Declared) (id : List ℕ) → leads_within steps declared id id ≡ true
+pub within-reflexive : (steps : ℕ) (declared : InterfaceBases) (id : List ℕ) → leads_within steps declared id id ≡ true
 unfolding leads_within
 within-reflexive zero declared id = bytes-same id id refl
 within-reflexive (suc steps) declared id =
@@ -175,14 +175,14 @@ within-reflexive (suc steps) declared id =
     (bytes-same id id refl)
 
 -- an interface leads to itself
-pub within-equal : (declared : Declared) (first last : List ℕ) → bytes_eq first last ≡ true
+pub within-equal : (declared : InterfaceBases) (first last : List ℕ) → bytes_eq first last ≡ true
     → leads_within (length declared) declared first last ≡ true
 within-equal declared first last e =
     subst (λ (id : List ℕ). leads_within (length declared) declared first id ≡ true) (same-bytes first last e)
     (within-reflexive (length declared) declared first)
 
 -- more declarations lead as far
-within-mono : (steps : ℕ) (few many : Declared)
+within-mono : (steps : ℕ) (few many : InterfaceBases)
     → ((id base : List ℕ) → is_base few id base ≡ true → is_base many id base ≡ true) → (first last : List ℕ)
     → leads_within steps few first last ≡ true → leads_within steps many first last ≡ true
 unfolding leads_within
@@ -197,7 +197,7 @@ within-mono (suc steps) few many more first last h =
           (within-mono steps few many more f.0 last f.2))
     ]
 
-pub chain-from_within : (steps : ℕ) (declared : Declared) (first last : List ℕ)
+pub chain-from_within : (steps : ℕ) (declared : InterfaceBases) (first last : List ℕ)
     → leads_within steps declared first last ≡ true → LeadsTo declared first last
 unfolding leads_within
 chain-from_within zero declared first last h = ([], same-bytes first last h)
@@ -211,11 +211,11 @@ chain-from_within (suc steps) declared first last h =
     ]
 
 -- a chain that leaves an interface for the last time, by one of its bases
-Turned : List ℕ → Declared → List ℕ → Type 0
+Turned : List ℕ → InterfaceBases → List ℕ → Type 0
 Turned id declared last = (base : List ℕ) × (is_base declared id base ≡ true) × LeadsTo (without id declared) base last
 
 -- a chain never leaves this interface, or does so for a last time
-last_turn : (id : List ℕ) (declared : Declared) (first : List ℕ) (ids : List (List ℕ)) (last : List ℕ)
+last_turn : (id : List ℕ) (declared : InterfaceBases) (first : List ℕ) (ids : List (List ℕ)) (last : List ℕ)
     → IsChain declared first ids last → LeadsTo (without id declared) first last ⊎ Turned id declared last
 unfolding Turned
 last_turn id declared first [] last h = inl ([], h)
@@ -237,14 +237,14 @@ last_turn id declared first (next ∷ ids) last h =
     ]
 
 -- a chain on which an interface has no base left doesn't leave it
-never_left : (steps : ℕ) (declared : Declared) (first : List ℕ) (ids : List (List ℕ)) (last : List ℕ)
+never_left : (steps : ℕ) (declared : InterfaceBases) (first : List ℕ) (ids : List (List ℕ)) (last : List ℕ)
     → IsChain (without first declared) first ids last → leads_within steps declared first last ≡ true
 never_left steps declared first [] last h =
     subst (λ (id : List ℕ). leads_within steps declared first id ≡ true) h (within-reflexive steps declared first)
 never_left steps declared first (next ∷ ids) last h = absurd (base-gone first next declared h.0)
 
-left_for_good : (steps : ℕ) (declared : Declared) → length declared ≤ suc steps → (first last : List ℕ)
-    → ((few : Declared) → length few ≤ steps → (a : List ℕ) (ids : List (List ℕ)) → IsChain few a ids last
+left_for_good : (steps : ℕ) (declared : InterfaceBases) → length declared ≤ suc steps → (first last : List ℕ)
+    → ((few : InterfaceBases) → length few ≤ steps → (a : List ℕ) (ids : List (List ℕ)) → IsChain few a ids last
     → leads_within steps few a last ≡ true)
     → Turned first declared last → leads_within (suc steps) declared first last ≡ true
 unfolding Turned leads_within
@@ -256,7 +256,7 @@ left_for_good steps declared short first last shorter turned =
     (shorter (without first declared) (omega (arith, s, short)) turned.0 turned.2.0 turned.2.1)))
 
 -- a chain has no need of more steps than there are declarations
-pub within-from_chain : (steps : ℕ) (declared : Declared) → length declared ≤ steps
+pub within-from_chain : (steps : ℕ) (declared : InterfaceBases) → length declared ≤ steps
     → (first : List ℕ) (ids : List (List ℕ)) (last : List ℕ) → IsChain declared first ids last
     → leads_within steps declared first last ≡ true
 unfolding leads_within
@@ -272,22 +272,22 @@ within-from_chain (suc steps) declared short first ids last h =
 
 -- ---- the test and the relation
 
-follow : (declared : Declared) (first : List ℕ) (ids : List (List ℕ)) (middle last : List ℕ)
+follow : (declared : InterfaceBases) (first : List ℕ) (ids : List (List ℕ)) (middle last : List ℕ)
     → IsChain declared first ids middle → LeadsTo declared middle last → LeadsTo declared first last
 follow declared first [] middle last a b = subst (λ (id : List ℕ). LeadsTo declared id last) (sym a) b
 follow declared first (next ∷ ids) middle last a b =
     let rest = follow declared next ids middle last a.1 b in
     (next ∷ rest.0, (a.0, rest.1))
 
-pub joined : (declared : Declared) (first middle last : List ℕ) → LeadsTo declared first middle
+pub joined : (declared : InterfaceBases) (first middle last : List ℕ) → LeadsTo declared first middle
     → LeadsTo declared middle last → LeadsTo declared first last
 joined declared first middle last a b = follow declared first a.0 middle last a.1 b
 
-pub leads-within : (declared : Declared) (first last : List ℕ) → LeadsTo declared first last
+pub leads-within : (declared : InterfaceBases) (first last : List ℕ) → LeadsTo declared first last
     → leads_within (length declared) declared first last ≡ true
 leads-within declared first last h = within-from_chain (length declared) declared (omega arith) first h.0 last h.1
 
-pub conforms-from_relation : (declared : Declared) (sub base : List ℕ) → InterfaceConforms declared sub base
+pub conforms-from_relation : (declared : InterfaceBases) (sub base : List ℕ) → InterfaceConforms declared sub base
     → interface_conforms declared sub base ≡ true
 unfolding interface_conforms
 conforms-from_relation declared sub base h =
@@ -304,7 +304,7 @@ conforms-from_relation declared sub base h =
       | inr chain ↦ or_right (nat_eq (length sub) 0 || empty_base) leads (leads-within declared sub base chain)
     ]
 
-pub relation-from_conforms : (declared : Declared) (sub base : List ℕ) → interface_conforms declared sub base ≡ true
+pub relation-from_conforms : (declared : InterfaceBases) (sub base : List ℕ) → interface_conforms declared sub base ≡ true
     → InterfaceConforms declared sub base
 unfolding interface_conforms
 relation-from_conforms declared sub base h =

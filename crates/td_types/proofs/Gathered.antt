@@ -13,13 +13,13 @@ use Rattle.td_types.proofs.Redefined.{entries_of}
 use Rattle.td_types.proofs.Rest.{rest}
 use Rattle.td_types.specs.Adding.{most_properties}
 use Rattle.td_types.specs.Conforming.{once, add_once}
-use Rattle.td_types.specs.Inheriting.{extended, IsMoreBy, IsMore}
-use Rattle.td_types.specs.Judged.{inherited, names_above}
+use Rattle.td_types.specs.Inheriting.{with_further, IsMoreBy, IsMore}
+use Rattle.td_types.specs.Judged.{inherited_properties, names_above}
 use Rattle.td_types.specs.Modes.{is_mandatory, is_readonly, mode_of, join}
-use Rattle.td_types.specs.Properties.{has_property, is_called, joined_mode, newcomers, strengthened}
+use Rattle.td_types.specs.Properties.{has_property, is_called, joined_mode, newcomers, with_stronger_mode}
 use Rattle.td_types.specs.Repository.{is_among}
 use Rattle.td_cdr.specs.Seen.{has_seen, HaveSeen}
-use Rattle.td_types.specs.declared.entry.Entry.{Entry}
+use Rattle.td_types.specs.declared.entry.TypeEntry.{TypeEntry}
 use Rattle.td_types.specs.declared.fault.TypesFault.{TypesFault}
 use Rattle.td_types.specs.declared.fault.TypesFault.TheVariants.{User, Full, Memory}
 
@@ -81,18 +81,18 @@ joined-append [] ys name = sym (join_first (joined_mode ys name))
 joined-append (x ∷ xs) ys name =
     rw (joined-append xs ys name) (joined_head (is_called name x) x.mode (joined_mode xs name) (joined_mode ys name))
 
-pub modes_on : (bases : List (Bor Entry)) (i : ℕ) (b : Bor Entry) (name : List ℕ) (m total : PropertyMode)
+pub modes_on : (bases : List (Bor TypeEntry)) (i : ℕ) (b : Bor TypeEntry) (name : List ℕ) (m total : PropertyMode)
     → i < length bases → b ≡ get_or bases i b
-    → join m (joined_mode (inherited (entries_of (drop i bases))) name) ≡ total
-    → join (join m (joined_mode b.now.full name)) (joined_mode (inherited (entries_of (drop (i + 1) bases))) name)
+    → join m (joined_mode (inherited_properties (entries_of (drop i bases))) name) ≡ total
+    → join (join m (joined_mode b.now.full name)) (joined_mode (inherited_properties (entries_of (drop (i + 1) bases))) name)
     ≡ total
 modes_on bases i b name m total lt is h =
-    let one : join m (joined_mode (inherited (entries_of (drop i bases))) name)
+    let one : join m (joined_mode (inherited_properties (entries_of (drop i bases))) name)
     ≡ join (join m (joined_mode b.now.full name))
-    (joined_mode (inherited (entries_of (drop (i + 1) bases))) name) =
-    rw (rest bases i b lt is, joined-append b.now.full (inherited (entries_of (drop (i + 1) bases))) name)
+    (joined_mode (inherited_properties (entries_of (drop (i + 1) bases))) name) =
+    rw (rest bases i b lt is, joined-append b.now.full (inherited_properties (entries_of (drop (i + 1) bases))) name)
     (sym (join_assoc m (joined_mode b.now.full name)
-    (joined_mode (inherited (entries_of (drop (i + 1) bases))) name))) in
+    (joined_mode (inherited_properties (entries_of (drop (i + 1) bases))) name))) in
     sym one ∙ h
 
 -- ---- newcomers
@@ -121,16 +121,16 @@ has_last own p q name e =
     list_any-append (is_called name) own (q ∷ []) ∙ (rw e (turned (has_property own name) (is_called name p)))
 
 pub skipped : (inh own later : List PropStruct) (p : PropStruct) → has_property own p.name ≡ true
-    → extended inh own later ≡ extended inh own (p ∷ later)
+    → with_further inh own later ≡ with_further inh own (p ∷ later)
 skipped inh own later p h = rw h refl
 
 pub pushed : (inh own new later : List PropStruct) (p : PropStruct) → has_property own p.name ≡ false
-    → new ≡ own ++ strengthened inh p ∷ [] → extended inh new later ≡ extended inh own (p ∷ later)
+    → new ≡ own ++ with_stronger_mode inh p ∷ [] → with_further inh new later ≡ with_further inh own (p ∷ later)
 pushed inh own new later p h e =
-    let same : newcomers (own ++ strengthened inh p ∷ []) later ≡ newcomers (p ∷ own) later =
-    newcomers_same (own ++ strengthened inh p ∷ []) (p ∷ own) later
-    (λ name. has_last own p (strengthened inh p) name refl) in
-    rw (e, same, h) (append_assoc own (strengthened inh p ∷ []) (map (strengthened inh) (newcomers (p ∷ own) later)))
+    let same : newcomers (own ++ with_stronger_mode inh p ∷ []) later ≡ newcomers (p ∷ own) later =
+    newcomers_same (own ++ with_stronger_mode inh p ∷ []) (p ∷ own) later
+    (λ name. has_last own p (with_stronger_mode inh p) name refl) in
+    rw (e, same, h) (append_assoc own (with_stronger_mode inh p ∷ []) (map (with_stronger_mode inh) (newcomers (p ∷ own) later)))
 
 pub one_longer : (own new : List PropStruct) (p : PropStruct) → new ≡ own ++ p ∷ [] → length own < most_properties
     → length new ≤ most_properties
@@ -170,7 +170,7 @@ names_all names i met total le h =
     let one : once met (drop i names) ≡ met = rw (drop_all i names le) refl in
     sym one ∙ h
 
-pub bases_on : (bases : List (Bor Entry)) (i : ℕ) (b : Bor Entry) (met new last total : List (List ℕ))
+pub bases_on : (bases : List (Bor TypeEntry)) (i : ℕ) (b : Bor TypeEntry) (met new last total : List (List ℕ))
     → i < length bases → b ≡ get_or bases i b → new ≡ add_once met b.now.service_type.name
     → last ≡ once new b.now.ancestors → once met (names_above (entries_of (drop i bases))) ≡ total
     → once last (names_above (entries_of (drop (i + 1) bases))) ≡ total
@@ -189,7 +189,7 @@ abbrev failed : TypesFault → Result (Unit {0}) TypesFault
 failed t = Err t
 
 pub fails : (inh old new further later was now far rest : List PropStruct) (t : TypesFault)
-    → extended inh old further ≡ extended inh was far → IsMoreBy inh old new further later (failed t)
+    → with_further inh old further ≡ with_further inh was far → IsMoreBy inh old new further later (failed t)
     → IsMoreBy inh was now far rest (failed t)
 fails inh old new further later was now far rest (User f) e h = absurd h
 fails inh old new further later was now far rest Full e h = rw (← e) h
@@ -198,18 +198,18 @@ fails inh old new further later was now far rest Memory e h = tt
 abbrev refused : TypesFault → Result (List PropStruct) TypesFault
 refused t = Err t
 
-pub fails_all : (inh old new further later total : List PropStruct) (t : TypesFault) → extended inh old further ≡ total
+pub fails_all : (inh old new further later total : List PropStruct) (t : TypesFault) → with_further inh old further ≡ total
     → IsMoreBy inh old new further later (failed t) → IsMore total (refused t)
 fails_all inh old new further later total (User f) e h = absurd h
 fails_all inh old new further later total Full e h = rw (← e) h
 fails_all inh old new further later total Memory e h = tt
 
 pub one_of : (inh own props later : List PropStruct) (i : ℕ) (p : PropStruct) → i < length props → p ≡ get_or props i p
-    → extended inh own (p ∷ (drop (i + 1) props ++ later)) ≡ extended inh own (drop i props ++ later)
+    → with_further inh own (p ∷ (drop (i + 1) props ++ later)) ≡ with_further inh own (drop i props ++ later)
 one_of inh own props later i p lt is = rw (rest props i p lt is) refl
 
-pub base_of : (inh own : List PropStruct) (bases : List (Bor Entry)) (i : ℕ) (b : Bor Entry) → i < length bases
+pub base_of : (inh own : List PropStruct) (bases : List (Bor TypeEntry)) (i : ℕ) (b : Bor TypeEntry) → i < length bases
     → b ≡ get_or bases i b
-    → extended inh own (b.now.full ++ inherited (entries_of (drop (i + 1) bases)))
-    ≡ extended inh own (inherited (entries_of (drop i bases)))
+    → with_further inh own (b.now.full ++ inherited_properties (entries_of (drop (i + 1) bases)))
+    ≡ with_further inh own (inherited_properties (entries_of (drop i bases)))
 base_of inh own bases i b lt is = rw (rest bases i b lt is) refl

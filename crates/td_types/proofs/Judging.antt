@@ -4,50 +4,51 @@ use Rattle.std.proofs.Common.{None, Some, Ok, Err}
 use Rattle.std.specs.Option.{option_map, option_copied, is_some}
 use Rattle.std.specs.Prelude.{IsOk}
 use Rattle.td_cdr.specs.Names.{word_name}
-use Rattle.td_types.specs.declared.entry.Entry.{Entry}
+use Rattle.td_types.specs.declared.entry.TypeEntry.{TypeEntry}
 use Rattle.td_types.specs.declared.fault.RepoFault.TheVariants as fault
 use Rattle.td_types.specs.declared.fault.TypesFault.{TypesFault}
 use Rattle.td_types.specs.declared.fault.TypesFault.TheVariants.{User, Full, Memory}
 use Rattle.td_types.specs.declared.reply.TypesReply.{TypesReply}
 use Rattle.td_types.specs.declared.reply.TypesReply.TheVariants as reply
-use Rattle.td_types.specs.Calls.{Comes, refuse, known, act_on, AnswersFreely, sub_type, remove_unless, without}
+use Rattle.td_types.specs.Calls.{RepositoryResult, refuse, on_type, act_on, AnswersFreely, sub_type, remove_unless}
+use Rattle.td_types.specs.Calls.{without}
 use Rattle.td_types.specs.Calls.{remove_type, set_mask, mask_type, unmask_type}
 use Rattle.td_types.specs.Judgements.{IsRefusal}
-use Rattle.td_types.specs.Kept.{kept, repository, AreEntries}
+use Rattle.td_types.specs.Kept.{entry_type, repository, AreEntries}
 use Rattle.td_types.specs.Removing.{sub_entry, without_entry, with_mask}
-use Rattle.td_types.specs.Repository.{Repository, ServiceType, Declared, type_named, mask_in, mask_of}
-use Rattle.td_types.specs.Sought.{sought, entry_named}
+use Rattle.td_types.specs.Repository.{Repository, ServiceType, InterfaceBases, type_named, mask_in, mask_of}
+use Rattle.td_types.specs.Sought.{find_entry, entry_named}
 use Rattle.td_types.proofs.Found.{type_of_entry}
 use Rattle.td_types.proofs.Outcomes.{named}
 use Rattle.td_types.proofs.Masks.{repository-masked, entries-masked}
 use Rattle.td_types.proofs.Removed.{repository-without, entries-without, removed, has_sub}
 use Rattle.td_types.proofs.Subtypes.{sub_type-kept}
 
-pub refused-freely : (comes : Comes) (r : Repository) (t : TypesFault) → IsRefusal comes t
+pub refused-freely : (comes : RepositoryResult) (r : Repository) (t : TypesFault) → IsRefusal comes t
     → AnswersFreely comes r r (Err t)
 refused-freely comes r (User f) h = (h, refl)
 refused-freely comes r Full h = h
 refused-freely comes r Memory h = (h, refl)
 
-ok_from : (comes : Comes) (x : TypesReply × Repository) → comes ≡ Ok x → IsOk comes
+ok_from : (comes : RepositoryResult) (x : TypesReply × Repository) → comes ≡ Ok x → IsOk comes
 ok_from comes x h = rw h refl
 
 -- ---- a name
 
-illegal : (r : Repository) (name : List ℕ) (act : ServiceType → Comes) → word_name name ≡ false
-    → known r name act ≡ refuse (fault.IllegalServiceType name)
+illegal : (r : Repository) (name : List ℕ) (act : ServiceType → RepositoryResult) → word_name name ≡ false
+    → on_type r name act ≡ refuse (fault.IllegalServiceType name)
 illegal r name act h = rw h refl
 
-unknown : (r : Repository) (name : List ℕ) (act : ServiceType → Comes) → word_name name ≡ true
-    → type_named r.types name ≡ None → known r name act ≡ refuse (fault.UnknownServiceType name)
+unknown : (r : Repository) (name : List ℕ) (act : ServiceType → RepositoryResult) → word_name name ≡ true
+    → type_named r.types name ≡ None → on_type r name act ≡ refuse (fault.UnknownServiceType name)
 unknown r name act w h = rw (w, h) refl
 
-there : (r : Repository) (name : List ℕ) (act : ServiceType → Comes) (t : ServiceType) → word_name name ≡ true
-    → type_named r.types name ≡ Some t → known r name act ≡ act t
+there : (r : Repository) (name : List ℕ) (act : ServiceType → RepositoryResult) (t : ServiceType) → word_name name ≡ true
+    → type_named r.types name ≡ Some t → on_type r name act ≡ act t
 there r name act t w h = rw (w, h) refl
 
 -- what an accepted call did to the type that it found
-accepted_when : (name : List ℕ) (act : ServiceType → Comes) (b : Bool) (found : Option ServiceType)
+accepted_when : (name : List ℕ) (act : ServiceType → RepositoryResult) (b : Bool) (found : Option ServiceType)
     → IsOk (cond b (act_on found name act) (refuse (fault.IllegalServiceType name)))
     → (t : ServiceType) × (found ≡ Some t) × IsOk (act t)
     × (cond b (act_on found name act) (refuse (fault.IllegalServiceType name)) ≡ act t)
@@ -55,8 +56,8 @@ accepted_when name act true (Some t) h = (t, refl, h, refl)
 accepted_when name act true None h = absurd (let bad : ⊥ = cc in bad)
 accepted_when name act false found h = absurd (let bad : ⊥ = cc in bad)
 
-accepted_on : (r : Repository) (name : List ℕ) (act : ServiceType → Comes) → IsOk (known r name act)
-    → (t : ServiceType) × (type_named r.types name ≡ Some t) × IsOk (act t) × (known r name act ≡ act t)
+accepted_on : (r : Repository) (name : List ℕ) (act : ServiceType → RepositoryResult) → IsOk (on_type r name act)
+    → (t : ServiceType) × (type_named r.types name ≡ Some t) × IsOk (act t) × (on_type r name act ≡ act t)
 accepted_on r name act h = accepted_when name act (word_name name) (type_named r.types name) h
 
 -- ---- masks
@@ -190,23 +191,23 @@ module _ (r : Repository) (name : List ℕ) where
 
 -- ---- by the entries
 
-sought_there : (es : List Entry) (name : List ℕ) (e : Entry) → word_name name ≡ true → entry_named es name ≡ Some e
-    → sought es name ≡ Ok e
+sought_there : (es : List TypeEntry) (name : List ℕ) (e : TypeEntry) → word_name name ≡ true → entry_named es name ≡ Some e
+    → find_entry es name ≡ Ok e
 sought_there es name e w h = rw (w, h) refl
 
-module _ (es : List Entry) (interfaces : Declared) (last : ℕ) (name : List ℕ) (word : word_name name ≡ true) where
+module _ (es : List TypeEntry) (interfaces : InterfaceBases) (last : ℕ) (name : List ℕ) (word : word_name name ≡ true) where
   pub unknown_entry : entry_named es name ≡ None
       → remove_type (repository es interfaces last) name ≡ refuse (fault.UnknownServiceType name)
   unknown_entry h =
       remove_unknown (repository es interfaces last) name word
-      (type_of_entry es name ∙ ap (λ (o : Option Entry). option_map kept o) h)
+      (type_of_entry es name ∙ ap (λ (o : Option TypeEntry). option_map entry_type o) h)
 
-  pub remove_accepted : (e : Entry) → AreEntries es interfaces last → entry_named es name ≡ Some e
+  pub remove_accepted : (e : TypeEntry) → AreEntries es interfaces last → entry_named es name ≡ Some e
       → sub_entry es name ≡ None → IsOk (remove_type (repository es interfaces last) name)
   remove_accepted e are h none =
       ok_from _ _ (removed es interfaces last name e are (sought_there es name e word h) none)
 
-  pub has_sub_type : (e sub : Entry) → AreEntries es interfaces last → entry_named es name ≡ Some e
+  pub has_sub_type : (e sub : TypeEntry) → AreEntries es interfaces last → entry_named es name ≡ Some e
       → sub_entry es name ≡ Some sub
       → remove_type (repository es interfaces last) name ≡ refuse (fault.HasSubTypes name sub.service_type.name)
   has_sub_type e sub are h some = has_sub es interfaces last name e sub are (sought_there es name e word h) some
@@ -216,38 +217,38 @@ word_from given name r b same is answer = ap word_name (sym same) ∙ (sym is �
 
 -- ---- what is left by accepted calls
 
-none-mapped : (o : Option Entry) → option_map kept o ≡ None → o ≡ None
+none-mapped : (o : Option TypeEntry) → option_map entry_type o ≡ None → o ≡ None
 none-mapped None h = refl
 none-mapped (Some e) h = absurd (let bad : ⊥ = cc in bad)
 
-module _ (es new : List Entry) (interfaces : Declared) (last : ℕ) (name : List ℕ) (r : Repository)
+module _ (es new : List TypeEntry) (interfaces : InterfaceBases) (last : ℕ) (name : List ℕ) (r : Repository)
     (view : repository es interfaces last ≡ r) where
-  pub mask_told : new ≡ with_mask es name true → IsOk (mask_type r name)
+  pub mask_content : new ≡ with_mask es name true → IsOk (mask_type r name)
       → mask_type r name ≡ Ok (reply.Masked, repository new interfaces last)
-  mask_told n ok =
+  mask_content n ok =
       mask_done r name ok
       ∙ ap (λ (after : Repository). Ok (reply.Masked, after))
       (ap (λ (x : Repository). set_mask x name true) (sym view)
       ∙ (sym (repository-masked es interfaces last name true)
-      ∙ ap (λ (xs : List Entry). repository xs interfaces last) (sym n)))
+      ∙ ap (λ (xs : List TypeEntry). repository xs interfaces last) (sym n)))
 
-  pub unmask_told : new ≡ with_mask es name false → IsOk (unmask_type r name)
+  pub unmask_content : new ≡ with_mask es name false → IsOk (unmask_type r name)
       → unmask_type r name ≡ Ok (reply.Unmasked, repository new interfaces last)
-  unmask_told n ok =
+  unmask_content n ok =
       unmask_done r name ok
       ∙ ap (λ (after : Repository). Ok (reply.Unmasked, after))
       (ap (λ (x : Repository). set_mask x name false) (sym view)
       ∙ (sym (repository-masked es interfaces last name false)
-      ∙ ap (λ (xs : List Entry). repository xs interfaces last) (sym n)))
+      ∙ ap (λ (xs : List TypeEntry). repository xs interfaces last) (sym n)))
 
-  pub remove_told : new ≡ without_entry es name → IsOk (remove_type r name)
+  pub remove_content : new ≡ without_entry es name → IsOk (remove_type r name)
       → remove_type r name ≡ Ok (reply.Removed, repository new interfaces last)
-  remove_told n ok =
+  remove_content n ok =
       (remove_done r name ok).1
       ∙ ap (λ (after : Repository). Ok (reply.Removed, after))
       (ap (λ (x : Repository). without x name) (sym view)
       ∙ (sym (repository-without es interfaces last name)
-      ∙ ap (λ (xs : List Entry). repository xs interfaces last) (sym n)))
+      ∙ ap (λ (xs : List TypeEntry). repository xs interfaces last) (sym n)))
 
   pub mask_keeps : (b : Bool) → AreEntries es interfaces last → new ≡ with_mask es name b
       → AreEntries new interfaces last
@@ -263,21 +264,21 @@ module _ (es new : List Entry) (interfaces : Declared) (last : ℕ) (name : List
 
 pub mask_from : (r : Repository) (given name : List ℕ) (answer mask : Option Bool) → given ≡ name
     → answer ≡ mask_of r.types given → answer ≡ mask → mask_of r.types name ≡ mask
-mask_from r given name answer mask same is told = ap (mask_of r.types) (sym same) ∙ (sym is ∙ told)
+mask_from r given name answer mask same is content = ap (mask_of r.types) (sym same) ∙ (sym is ∙ content)
 
-pub entry_from : (es : List Entry) (given name : List ℕ) (found : Option Entry) → given ≡ name
+pub entry_from : (es : List TypeEntry) (given name : List ℕ) (found : Option TypeEntry) → given ≡ name
     → found ≡ entry_named es given → entry_named es name ≡ found
 entry_from es given name found same is = ap (entry_named es) (sym same) ∙ sym is
 
-no_entry : (found : Option (Bor Entry)) → is_some found ≡ false → option_copied found ≡ None
+no_entry : (found : Option (Bor TypeEntry)) → is_some found ≡ false → option_copied found ≡ None
 no_entry None h = refl
 no_entry (Some e) h = absurd (let bad : ⊥ = cc in bad)
 
-some_entry : (found : Option (Bor Entry)) → is_some found ≡ true → (e : Entry) × (option_copied found ≡ Some e)
+some_entry : (found : Option (Bor TypeEntry)) → is_some found ≡ true → (e : TypeEntry) × (option_copied found ≡ Some e)
 some_entry None h = absurd (let bad : ⊥ = cc in bad)
 some_entry (Some e) h = (e.now, refl)
 
-module _ (es : List Entry) (interfaces : Declared) (last : ℕ) (name given : List ℕ) (found : Option (Bor Entry))
+module _ (es : List TypeEntry) (interfaces : InterfaceBases) (last : ℕ) (name given : List ℕ) (found : Option (Bor TypeEntry))
     (none : Bool) (r : Repository) (view : repository es interfaces last ≡ r) (word : word_name name ≡ true)
     (same : given ≡ name) (is : option_copied found ≡ entry_named es given) (test : is_some found ≡ not none) where
   pub judged_unknown : none ≡ true → remove_type r name ≡ refuse (fault.UnknownServiceType name)
@@ -286,24 +287,24 @@ module _ (es : List Entry) (interfaces : Declared) (last : ℕ) (name given : Li
       ∙ unknown_entry es interfaces last name word
       (entry_from es given name None same (sym (no_entry found (test ∙ ap not h)) ∙ is))
 
-  there_is : none ≡ false → (e : Entry) × (entry_named es name ≡ Some e)
+  there_is : none ≡ false → (e : TypeEntry) × (entry_named es name ≡ Some e)
   there_is h =
       let f = some_entry found (test ∙ ap not h) in
       (f.0, entry_from es given name (Some f.0) same (sym f.1 ∙ is))
 
-  pub judged_accepted : (gs : List Entry) (g : List ℕ) → gs ≡ es → g ≡ name → AreEntries es interfaces last
+  pub judged_accepted : (gs : List TypeEntry) (g : List ℕ) → gs ≡ es → g ≡ name → AreEntries es interfaces last
       → none ≡ false → None ≡ sub_entry gs g → IsOk (remove_type r name)
   judged_accepted gs g p q are h sub =
       let e = there_is h in
       subst (λ (x : Repository). IsOk (remove_type x name)) view
       (remove_accepted es interfaces last name word e.0 are e.1
-      (ap (λ (xs : List Entry). sub_entry xs name) (sym p) ∙ (ap (sub_entry gs) (sym q) ∙ sym sub)))
+      (ap (λ (xs : List TypeEntry). sub_entry xs name) (sym p) ∙ (ap (sub_entry gs) (sym q) ∙ sym sub)))
 
-  pub judged_sub : (gs : List Entry) (g : List ℕ) (sub : Entry) → gs ≡ es → g ≡ name → AreEntries es interfaces last
+  pub judged_sub : (gs : List TypeEntry) (g : List ℕ) (sub : TypeEntry) → gs ≡ es → g ≡ name → AreEntries es interfaces last
       → none ≡ false → Some sub ≡ sub_entry gs g
       → remove_type r name ≡ refuse (fault.HasSubTypes name sub.service_type.name)
   judged_sub gs g sub p q are h some =
       let e = there_is h in
       ap (λ (x : Repository). remove_type x name) (sym view)
       ∙ has_sub_type es interfaces last name word e.0 sub are e.1
-      (ap (λ (xs : List Entry). sub_entry xs name) (sym p) ∙ (ap (sub_entry gs) (sym q) ∙ sym some))
+      (ap (λ (xs : List TypeEntry). sub_entry xs name) (sym p) ∙ (ap (sub_entry gs) (sym q) ∙ sym some))

@@ -5,15 +5,16 @@ use Rattle.std.specs.List.{flat_map, AllByRecursion}
 use Rattle.std.specs.Str.{bytes_eq}
 use Rattle.std.proofs.lemmas.Bool.{cases_Bool}
 use Rattle.std.proofs.lemmas.List.{reverse-append, map-append}
-use Rattle.td_types.specs.declared.entry.Entry.{Entry}
+use Rattle.td_types.specs.declared.entry.TypeEntry.{TypeEntry}
 use Rattle.td_types.specs.Calls.{set_mask}
 use Rattle.td_types.specs.Conforming.{once, walk, ancestors, conforms}
-use Rattle.td_types.specs.Kept.{kept, repository, IsKept, AreEntries}
-use Rattle.td_types.specs.Laws.{unmasked}
+use Rattle.td_types.specs.Kept.{entry_type, repository, IsValidEntry, AreEntries}
+use Rattle.td_types.specs.Laws.{without_mask}
 use Rattle.td_types.specs.Properties.{full, full_properties}
 use Rattle.td_types.specs.Removing.{with_mask}
-use Rattle.td_types.specs.Repository.{Repository, ServiceType, Declared, is_named, has_type, type_named, mask_of, top}
-use Rattle.td_types.specs.Repository.{Founded, IsRepository}
+use Rattle.td_types.specs.Repository.{Repository, ServiceType, InterfaceBases, is_named, has_type, type_named, mask_of}
+use Rattle.td_types.specs.Repository.{top}
+use Rattle.td_types.specs.Repository.{IsWellFounded, IsRepository}
 use Rattle.td_types.proofs.Others.{named-otherwise, Descends, full-step, full-descends, walk-step, walk-descends}
 
 -- ---- types that differ in the mask alone
@@ -52,10 +53,10 @@ module _ (change : ServiceType → ServiceType) (alike : (t : ServiceType) → I
   top-alike [] = refl
   top-alike (t ∷ ts) = (alike t).incarnation
 
-  pub founded-alike : {ts : List ServiceType} → Founded ts → Founded (map change ts)
-  founded-alike Founded.none = Founded.none
-  founded-alike (Founded.more t older fresh supers higher f) =
-      Founded.more (change t) (map change older)
+  pub founded-alike : {ts : List ServiceType} → IsWellFounded ts → IsWellFounded (map change ts)
+  founded-alike IsWellFounded.none = IsWellFounded.none
+  founded-alike (IsWellFounded.more t older fresh supers higher f) =
+      IsWellFounded.more (change t) (map change older)
       (has-alike older (change t).name ∙ (ap (has_type older) (alike t).name ∙ fresh))
       (rw (alike t).supers (λ k d b. has-alike older (get_or t.supers k d) ∙ supers k d b))
       (let i = (alike t).incarnation in let e = top-alike older in omega (arith, i, e, higher))
@@ -95,8 +96,8 @@ module _ (types : List ServiceType) (name : List ℕ) (masked : Bool) where
   conforms-masked a b =
       rw (has-alike (masked_type name masked) (alike-masked name masked) types a, ancestors-masked a) refl
 
-  still-kept_when : (e : Entry) (b : Bool) → IsKept types e
-      → IsKept (map (masked_type name masked) types)
+  still-kept_when : (e : TypeEntry) (b : Bool) → IsValidEntry types e
+      → IsValidEntry (map (masked_type name masked) types)
       (cond b (record e { service_type = record e.service_type { masked = masked } }) e)
   still-kept_when e true k = record {
     ancestors = k.ancestors ∙ sym (ancestors-masked e.service_type.name);
@@ -107,8 +108,8 @@ module _ (types : List ServiceType) (name : List ℕ) (masked : Bool) where
     full = k.full ∙ sym (full-masked e.service_type.name);
   }
 
-  still-kept : (es : List Entry) → AllByRecursion (IsKept types) es
-      → AllByRecursion (IsKept (map (masked_type name masked) types)) (with_mask es name masked)
+  still-kept : (es : List TypeEntry) → AllByRecursion (IsValidEntry types) es
+      → AllByRecursion (IsValidEntry (map (masked_type name masked) types)) (with_mask es name masked)
   still-kept [] k = tt
   still-kept (e ∷ es) k = (still-kept_when e (bytes_eq e.service_type.name name) k.0, still-kept es k.1)
 
@@ -131,17 +132,17 @@ mask-set name masked (x ∷ ts) t h =
       | inr unlike ↦ rw (unlike, unlike) (mask-set name masked ts t (rw unlike at h))
     ]
 
-unmasked-when : (b masked : Bool) (t : ServiceType) → unmasked (cond b (record t { masked = masked }) t) ≡ unmasked t
+unmasked-when : (b masked : Bool) (t : ServiceType) → without_mask (cond b (record t { masked = masked }) t) ≡ without_mask t
 unmasked-when true masked t = refl
 unmasked-when false masked t = refl
 
 pub all-unmasked : (name : List ℕ) (masked : Bool) (ts : List ServiceType)
-    → map unmasked (map (masked_type name masked) ts) ≡ map unmasked ts
+    → map without_mask (map (masked_type name masked) ts) ≡ map without_mask ts
 all-unmasked name masked [] = refl
 all-unmasked name masked (t ∷ ts) =
-    ap (λ (x : ServiceType). x ∷ map unmasked (map (masked_type name masked) ts))
+    ap (λ (x : ServiceType). x ∷ map without_mask (map (masked_type name masked) ts))
     (unmasked-when (is_named name t) masked t)
-    ∙ ap (λ (xs : List ServiceType). unmasked t ∷ xs) (all-unmasked name masked ts)
+    ∙ ap (λ (xs : List ServiceType). without_mask t ∷ xs) (all-unmasked name masked ts)
 
 pub valid-masked : (r : Repository) (name : List ℕ) (masked : Bool) → IsRepository r
     → IsRepository (set_mask r name masked)
@@ -149,7 +150,7 @@ valid-masked r name masked valid =
     let change = masked_type name masked in
     let alike = alike-masked name masked in
     record {
-      founded = subst Founded (map-reversed change r.types) (founded-alike change alike valid.founded);
+      founded = subst IsWellFounded (map-reversed change r.types) (founded-alike change alike valid.founded);
       counted =
           let c = valid.counted in
           let e = top-alike change alike (reverse r.types) in
@@ -158,33 +159,33 @@ valid-masked r name masked valid =
 
 -- ---- their entries
 
-kept_when : (e : Entry) (b masked : Bool)
-    → kept (cond b (record e { service_type = record e.service_type { masked = masked } }) e)
-    ≡ cond b (record (kept e) { masked = masked }) (kept e)
+kept_when : (e : TypeEntry) (b masked : Bool)
+    → entry_type (cond b (record e { service_type = record e.service_type { masked = masked } }) e)
+    ≡ cond b (record (entry_type e) { masked = masked }) (entry_type e)
 kept_when e true masked = refl
 kept_when e false masked = refl
 
-pub kept-masked : (es : List Entry) (name : List ℕ) (masked : Bool)
-    → map kept (with_mask es name masked) ≡ map (masked_type name masked) (map kept es)
+pub kept-masked : (es : List TypeEntry) (name : List ℕ) (masked : Bool)
+    → map entry_type (with_mask es name masked) ≡ map (masked_type name masked) (map entry_type es)
 kept-masked [] name masked = refl
 kept-masked (e ∷ es) name masked =
-    ap (λ (t : ServiceType). t ∷ map kept (with_mask es name masked))
+    ap (λ (t : ServiceType). t ∷ map entry_type (with_mask es name masked))
     (kept_when e (bytes_eq e.service_type.name name) masked)
-    ∙ ap (λ (ts : List ServiceType). masked_type name masked (kept e) ∷ ts) (kept-masked es name masked)
+    ∙ ap (λ (ts : List ServiceType). masked_type name masked (entry_type e) ∷ ts) (kept-masked es name masked)
 
-pub repository-masked : (es : List Entry) (interfaces : Declared) (last : ℕ) (name : List ℕ) (masked : Bool)
+pub repository-masked : (es : List TypeEntry) (interfaces : InterfaceBases) (last : ℕ) (name : List ℕ) (masked : Bool)
     → repository (with_mask es name masked) interfaces last ≡ set_mask (repository es interfaces last) name masked
 repository-masked es interfaces last name masked =
     ap (λ (ts : List ServiceType). record { types = ts; interfaces = interfaces; last = last })
     (kept-masked es name masked)
 
-pub entries-masked : (es : List Entry) (interfaces : Declared) (last : ℕ) (name : List ℕ) (masked : Bool)
+pub entries-masked : (es : List TypeEntry) (interfaces : InterfaceBases) (last : ℕ) (name : List ℕ) (masked : Bool)
     → AreEntries es interfaces last → AreEntries (with_mask es name masked) interfaces last
 entries-masked es interfaces last name masked are = record {
   valid =
       subst IsRepository (sym (repository-masked es interfaces last name masked))
       (valid-masked (repository es interfaces last) name masked are.valid);
   kept =
-      subst (λ (ts : List ServiceType). AllByRecursion (IsKept ts) (with_mask es name masked))
-      (sym (kept-masked es name masked)) (still-kept (map kept es) name masked es are.kept);
+      subst (λ (ts : List ServiceType). AllByRecursion (IsValidEntry ts) (with_mask es name masked))
+      (sym (kept-masked es name masked)) (still-kept (map entry_type es) name masked es are.kept);
 }

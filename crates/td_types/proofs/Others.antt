@@ -11,7 +11,7 @@ use Rattle.std.proofs.lemmas.List.Folds.{list_any-append}
 use Rattle.td_value.specs.declared.structures.PropStruct.{PropStruct}
 use Rattle.td_types.specs.Conforming.{walk}
 use Rattle.td_types.specs.Properties.{full, with_inherited}
-use Rattle.td_types.specs.Repository.{ServiceType, is_named, type_named, has_type, is_among, top, Founded}
+use Rattle.td_types.specs.Repository.{ServiceType, is_named, type_named, has_type, is_among, top, IsWellFounded}
 use Rattle.td_types.proofs.Chains.{same-bytes, bytes-same}
 
 -- ---- lists from their other end
@@ -140,25 +140,25 @@ lacks-others gone name (t ∷ ts) h =
           (lacks-others gone name ts p.1))
     ]
 
-pub top-others : (gone : List ℕ) {ts : List ServiceType} → Founded ts → top (filter (others gone) ts) ≤ top ts
-top-others gone Founded.none = omega arith
-top-others gone (Founded.more t older fresh supers higher f) =
+pub top-others : (gone : List ℕ) {ts : List ServiceType} → IsWellFounded ts → top (filter (others gone) ts) ≤ top ts
+top-others gone IsWellFounded.none = omega arith
+top-others gone (IsWellFounded.more t older fresh supers higher f) =
     let i = top-others gone f in
     elim (cases_Bool (is_named gone t)) [
       | inl here ↦ rw here (omega (arith, i, higher))
       | inr other ↦ rw other (omega arith)
     ]
 
-pub founded-others : (gone : List ℕ) {ts : List ServiceType} → Founded ts → IsNoSuper gone ts
-    → Founded (filter (others gone) ts)
-founded-others gone Founded.none h = Founded.none
-founded-others gone (Founded.more t older fresh supers higher f) h =
+pub founded-others : (gone : List ℕ) {ts : List ServiceType} → IsWellFounded ts → IsNoSuper gone ts
+    → IsWellFounded (filter (others gone) ts)
+founded-others gone IsWellFounded.none h = IsWellFounded.none
+founded-others gone (IsWellFounded.more t older fresh supers higher f) h =
     let p = or_parts (lists_super gone t) (list_any (lists_super gone) older) h in
     let rest = founded-others gone f p.1 in
     elim (cases_Bool (is_named gone t)) [
       | inl here ↦ rw here rest
       | inr other ↦
-          rw other (Founded.more t (filter (others gone) older) (lacks-others gone t.name older fresh)
+          rw other (IsWellFounded.more t (filter (others gone) older) (lacks-others gone t.name older fresh)
           (λ k d b. has-others gone (get_or t.supers k d) older
           (differs_from t gone (get_or t.supers k d) p.0 other (among-at t.supers k d b))
           ∙ supers k d b)

@@ -15,12 +15,13 @@ use Rattle.td_types.specs.declared.fault.TypesFault.TheVariants.{Full}
 use Rattle.td_types.specs.declared.reply.TypesReply.{TypesReply}
 use Rattle.td_types.specs.declared.reply.TypesReply.TheVariants as reply
 use Rattle.td_types.specs.Adding.{new_type, with_type, passes_limit}
-use Rattle.td_types.specs.Calls.{Comes, refuse, unless, known, act_on, add_fault, add_type, sub_type, remove_unless}
+use Rattle.td_types.specs.Calls.{RepositoryResult, refuse, unless, on_type, act_on, add_fault, add_type, sub_type}
+use Rattle.td_types.specs.Calls.{remove_unless}
 use Rattle.td_types.specs.Calls.{remove_type, without, set_mask, mask_type, unmask_type}
 use Rattle.td_types.specs.Conforming.{walk, ancestors, conforms}
 use Rattle.td_types.specs.Laws.{Removes, SetsMask, IsNewest}
 use Rattle.td_types.specs.Repository.{Repository, ServiceType, IsRepository, is_named, is_among, type_named, mask_in}
-use Rattle.td_types.specs.Repository.{has_type, Founded}
+use Rattle.td_types.specs.Repository.{has_type, IsWellFounded}
 use Rattle.td_types.proofs.Chains.{same-bytes, bytes-same}
 use Rattle.td_types.proofs.Masks.{masked_type, alike-masked, has-alike, named-masked, mask-set, all-unmasked}
 use Rattle.td_types.proofs.Masks.{full-masked, ancestors-masked, conforms-masked, valid-masked}
@@ -42,7 +43,7 @@ pub named : (types : List ServiceType) (name : List ℕ) (t : ServiceType) → t
 named [] name t h = absurd (let bad : ⊥ = cc in bad)
 named (x ∷ types) name t h = named_when name x t (is_named name x) (type_named types name) refl (named types name t) h
 
-known_when : (name : List ℕ) (act : ServiceType → Comes) (x : TypesReply × Repository) (b : Bool)
+known_when : (name : List ℕ) (act : ServiceType → RepositoryResult) (x : TypesReply × Repository) (b : Bool)
     (found : Option ServiceType)
     → cond b (act_on found name act) (refuse (fault.IllegalServiceType name)) ≡ Ok x
     → (t : ServiceType) × (found ≡ Some t) × (act t ≡ Ok x)
@@ -51,30 +52,30 @@ known_when name act x true None h = absurd (let bad : ⊥ = cc in bad)
 known_when name act x false found h = absurd (let bad : ⊥ = cc in bad)
 
 -- an accepted call found the type and did this with it
-known-ok : (r : Repository) (name : List ℕ) (act : ServiceType → Comes) (x : TypesReply × Repository)
-    → known r name act ≡ Ok x
+known-ok : (r : Repository) (name : List ℕ) (act : ServiceType → RepositoryResult) (x : TypesReply × Repository)
+    → on_type r name act ≡ Ok x
     → (t : ServiceType) × (t.name ≡ name) × (act t ≡ Ok x) × (type_named r.types name ≡ Some t)
 known-ok r name act x h =
     let f = known_when name act x (word_name name) (type_named r.types name) h in
     (f.0, named r.types name f.0 f.1, f.2, f.1)
 
-second : (a b : TypesReply × Repository) → ◌≡◌ {A = Comes} (Ok a) (Ok b) → a ≡ b
+second : (a b : TypesReply × Repository) → ◌≡◌ {A = RepositoryResult} (Ok a) (Ok b) → a ≡ b
 second a b h = cc
 
 -- ---- removing
 
-removed_when : (r : Repository) (t : ServiceType) (sub : Option ServiceType) (told : TypesReply) (after : Repository)
-    → remove_unless r t sub ≡ Ok (told, after) → (sub ≡ None) × (without r t.name ≡ after)
-removed_when r t None told after h =
-    (refl, ap (λ (p : TypesReply × Repository). p.1) (second (reply.Removed, without r t.name) (told, after) h))
-removed_when r t (Some sub) told after h = absurd (let bad : ⊥ = cc in bad)
+removed_when : (r : Repository) (t : ServiceType) (sub : Option ServiceType) (content : TypesReply) (after : Repository)
+    → remove_unless r t sub ≡ Ok (content, after) → (sub ≡ None) × (without r t.name ≡ after)
+removed_when r t None content after h =
+    (refl, ap (λ (p : TypesReply × Repository). p.1) (second (reply.Removed, without r t.name) (content, after) h))
+removed_when r t (Some sub) content after h = absurd (let bad : ⊥ = cc in bad)
 
-pub after_removal : (r : Repository) (name : List ℕ) (told : TypesReply) (after : Repository)
-    → remove_type r name ≡ Ok (told, after) → (sub_type r name ≡ None) × (without r name ≡ after)
+pub after_removal : (r : Repository) (name : List ℕ) (content : TypesReply) (after : Repository)
+    → remove_type r name ≡ Ok (content, after) → (sub_type r name ≡ None) × (without r name ≡ after)
 unfolding remove_type
-after_removal r name told after h =
-    let f = known-ok r name (λ t. remove_unless r t (sub_type r name)) (told, after) h in
-    let w = removed_when r f.0 (sub_type r name) told after f.2 in
+after_removal r name content after h =
+    let f = known-ok r name (λ t. remove_unless r t (sub_type r name)) (content, after) h in
+    let w = removed_when r f.0 (sub_type r name) content after f.2 in
     (w.0, subst (λ (n : List ℕ). without r n ≡ after) f.1 w.1)
 
 removes : (r : Repository) (name : List ℕ) → IsRepository r → sub_type r name ≡ None → Removes name r (without r name)
@@ -95,10 +96,10 @@ removes r name valid none =
       last = refl;
     }
 
-pub removal : (r : Repository) (name : List ℕ) (told : TypesReply) (after : Repository) → IsRepository r
-    → remove_type r name ≡ Ok (told, after) → Removes name r after
-removal r name told after valid h =
-    let f = after_removal r name told after h in
+pub removal : (r : Repository) (name : List ℕ) (content : TypesReply) (after : Repository) → IsRepository r
+    → remove_type r name ≡ Ok (content, after) → Removes name r after
+removal r name content after valid h =
+    let f = after_removal r name content after h in
     subst (Removes name r) f.1 (removes r name valid f.0)
 
 -- ---- masking
@@ -121,69 +122,69 @@ sets r name masked t valid found had = record {
   last = refl;
 }
 
-masked_when : (b : Bool) (f : RepoFault) (done told : TypesReply) (later after : Repository)
-    → cond b (refuse f) (Ok (done, later)) ≡ Ok (told, after) → (b ≡ false) × (later ≡ after)
-masked_when true f done told later after h = absurd (let bad : ⊥ = cc in bad)
-masked_when false f done told later after h =
-    (refl, ap (λ (p : TypesReply × Repository). p.1) (second (done, later) (told, after) h))
+masked_when : (b : Bool) (f : RepoFault) (done content : TypesReply) (later after : Repository)
+    → cond b (refuse f) (Ok (done, later)) ≡ Ok (content, after) → (b ≡ false) × (later ≡ after)
+masked_when true f done content later after h = absurd (let bad : ⊥ = cc in bad)
+masked_when false f done content later after h =
+    (refl, ap (λ (p : TypesReply × Repository). p.1) (second (done, later) (content, after) h))
 
-unmasked_when : (b : Bool) (f : RepoFault) (done told : TypesReply) (later after : Repository)
-    → cond b (Ok (done, later)) (refuse f) ≡ Ok (told, after) → (b ≡ true) × (later ≡ after)
-unmasked_when false f done told later after h = absurd (let bad : ⊥ = cc in bad)
-unmasked_when true f done told later after h =
-    (refl, ap (λ (p : TypesReply × Repository). p.1) (second (done, later) (told, after) h))
+unmasked_when : (b : Bool) (f : RepoFault) (done content : TypesReply) (later after : Repository)
+    → cond b (Ok (done, later)) (refuse f) ≡ Ok (content, after) → (b ≡ true) × (later ≡ after)
+unmasked_when false f done content later after h = absurd (let bad : ⊥ = cc in bad)
+unmasked_when true f done content later after h =
+    (refl, ap (λ (p : TypesReply × Repository). p.1) (second (done, later) (content, after) h))
 
-pub masking : (r : Repository) (name : List ℕ) (told : TypesReply) (after : Repository) → IsRepository r
-    → mask_type r name ≡ Ok (told, after) → SetsMask name true r after
+pub masking : (r : Repository) (name : List ℕ) (content : TypesReply) (after : Repository) → IsRepository r
+    → mask_type r name ≡ Ok (content, after) → SetsMask name true r after
 unfolding mask_type
-masking r name told after valid h =
-    let act : ServiceType → Comes =
+masking r name content after valid h =
+    let act : ServiceType → RepositoryResult =
     λ t. cond t.masked (refuse (fault.AlreadyMasked name)) (Ok (reply.Masked, set_mask r name true)) in
-    let f = known-ok r name act (told, after) h in
-    let w = masked_when f.0.masked (fault.AlreadyMasked name) reply.Masked told (set_mask r name true) after f.2 in
+    let f = known-ok r name act (content, after) h in
+    let w = masked_when f.0.masked (fault.AlreadyMasked name) reply.Masked content (set_mask r name true) after f.2 in
     subst (SetsMask name true r) w.1 (sets r name true f.0 valid f.3 w.0)
 
-pub unmasking : (r : Repository) (name : List ℕ) (told : TypesReply) (after : Repository) → IsRepository r
-    → unmask_type r name ≡ Ok (told, after) → SetsMask name false r after
+pub unmasking : (r : Repository) (name : List ℕ) (content : TypesReply) (after : Repository) → IsRepository r
+    → unmask_type r name ≡ Ok (content, after) → SetsMask name false r after
 unfolding unmask_type
-unmasking r name told after valid h =
-    let act : ServiceType → Comes =
+unmasking r name content after valid h =
+    let act : ServiceType → RepositoryResult =
     λ t. cond t.masked (Ok (reply.Unmasked, set_mask r name false)) (refuse (fault.NotMasked name)) in
-    let f = known-ok r name act (told, after) h in
-    let w = unmasked_when f.0.masked (fault.NotMasked name) reply.Unmasked told (set_mask r name false) after f.2 in
+    let f = known-ok r name act (content, after) h in
+    let w = unmasked_when f.0.masked (fault.NotMasked name) reply.Unmasked content (set_mask r name false) after f.2 in
     subst (SetsMask name false r) w.1 (sets r name false f.0 valid f.3 w.0)
 
 -- ---- adding
 
-added_when : (f : Option RepoFault) (full : Bool) (done told : TypesReply) (later after : Repository)
-    → unless f (cond full (Err Full) (Ok (done, later))) ≡ Ok (told, after)
-    → (f ≡ None) × (◌≡◌ {A = TypesReply × Repository} (done, later) (told, after))
-added_when (Some f) full done told later after h = absurd (let bad : ⊥ = cc in bad)
-added_when None true done told later after h = absurd (let bad : ⊥ = cc in bad)
-added_when None false done told later after h = (refl, second (done, later) (told, after) h)
+added_when : (f : Option RepoFault) (full : Bool) (done content : TypesReply) (later after : Repository)
+    → unless f (cond full (Err Full) (Ok (done, later))) ≡ Ok (content, after)
+    → (f ≡ None) × (◌≡◌ {A = TypesReply × Repository} (done, later) (content, after))
+added_when (Some f) full done content later after h = absurd (let bad : ⊥ = cc in bad)
+added_when None true done content later after h = absurd (let bad : ⊥ = cc in bad)
+added_when None false done content later after h = (refl, second (done, later) (content, after) h)
 
 pub after_adding : (r : Repository) (name if_name : List ℕ) (props : List PropStruct) (supers : List (List ℕ))
-    (told : TypesReply) (after : Repository)
-    → add_type r name if_name props supers ≡ Ok (told, after)
+    (content : TypesReply) (after : Repository)
+    → add_type r name if_name props supers ≡ Ok (content, after)
     → (add_fault r name if_name props supers ≡ None)
     × (◌≡◌ {A = TypesReply × Repository}
-    (reply.Added (r.last + 1), with_type r (new_type r name if_name props supers)) (told, after))
+    (reply.Added (r.last + 1), with_type r (new_type r name if_name props supers)) (content, after))
 unfolding add_type
-after_adding r name if_name props supers told after h =
+after_adding r name if_name props supers content after h =
     let t = new_type r name if_name props supers in
-    added_when (add_fault r name if_name props supers) (passes_limit (with_type r t) t) (reply.Added (r.last + 1)) told
+    added_when (add_fault r name if_name props supers) (passes_limit (with_type r t) t) (reply.Added (r.last + 1)) content
     (with_type r t) after h
 
 pub newest : (r : Repository) (name if_name : List ℕ) (props : List PropStruct) (supers : List (List ℕ))
-    (told : TypesReply) (after : Repository)
-    → IsRepository r → add_type r name if_name props supers ≡ Ok (told, after) → IsNewest r after told
-newest r name if_name props supers told after valid h =
+    (content : TypesReply) (after : Repository)
+    → IsRepository r → add_type r name if_name props supers ≡ Ok (content, after) → IsNewest r after content
+newest r name if_name props supers content after valid h =
     let t = new_type r name if_name props supers in
-    let f = after_adding r name if_name props supers told after h in
+    let f = after_adding r name if_name props supers content after h in
     let last : r.last + 1 ≡ after.last = ap (λ (p : TypesReply × Repository). p.1.last) f.1 in
-    let told_is : reply.Added (r.last + 1) ≡ told = ap (λ (p : TypesReply × Repository). p.0) f.1 in
+    let content_is : reply.Added (r.last + 1) ≡ content = ap (λ (p : TypesReply × Repository). p.0) f.1 in
     record {
-      told_is = sym told_is ∙ ap (λ (n : ℕ). reply.Added n) last;
+      content_is = sym content_is ∙ ap (λ (n : ℕ). reply.Added n) last;
       above_last = omega (arith, last);
       above_all = below-last r after.last (omega (arith, last)) valid;
     }
@@ -236,10 +237,10 @@ has-super older (first ∷ supers) h s a =
     ]
 
 -- what is met is there
-pub walk-has : {ts : List ServiceType} → Founded ts → (a b : List ℕ) → is_among b (walk ts a) ≡ true
+pub walk-has : {ts : List ServiceType} → IsWellFounded ts → (a b : List ℕ) → is_among b (walk ts a) ≡ true
     → has_type ts b ≡ true
-walk-has Founded.none a b h = absurd (false≢true h)
-walk-has (Founded.more t older fresh supers higher f) a b h =
+walk-has IsWellFounded.none a b h = absurd (false≢true h)
+walk-has (IsWellFounded.more t older fresh supers higher f) a b h =
     or_right (is_named b t) (has_type older b)
     (elim (cases_Bool (is_named a t)) [
       | inr other ↦ walk-has f a b
@@ -265,10 +266,10 @@ walk-older t older b fresh there =
     (subst (λ (n : List ℕ). has_type older n ≡ true) (sym (same-bytes t.name b e)) there)) in
     rw other refl
 
-pub walks-on : {ts : List ServiceType} → Founded ts → (a b c : List ℕ) → is_among b (walk ts a) ≡ true
+pub walks-on : {ts : List ServiceType} → IsWellFounded ts → (a b c : List ℕ) → is_among b (walk ts a) ≡ true
     → is_among c (walk ts b) ≡ true → is_among c (walk ts a) ≡ true
-walks-on Founded.none a b c h k = absurd (false≢true h)
-walks-on (Founded.more t older fresh supers higher f) a b c h k =
+walks-on IsWellFounded.none a b c h k = absurd (false≢true h)
+walks-on (IsWellFounded.more t older fresh supers higher f) a b c h k =
     let from = flat_map (λ s. s ∷ walk older s) t.supers in
     elim (cases_Bool (is_named a t)) [
       | inr other ↦
@@ -292,7 +293,7 @@ walks-on (Founded.more t older fresh supers higher f) a b c h k =
           ]))
     ]
 
-pub conforms-on : (types : List ServiceType) (a b c : List ℕ) → Founded (reverse types) → conforms types a b ≡ true
+pub conforms-on : (types : List ServiceType) (a b c : List ℕ) → IsWellFounded (reverse types) → conforms types a b ≡ true
     → conforms types b c ≡ true → conforms types a c ≡ true
 conforms-on types a b c founded h k =
     let p = and_parts (has_type types a) (bytes_eq a b || is_among b (ancestors types a)) h in

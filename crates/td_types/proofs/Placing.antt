@@ -7,35 +7,35 @@ use Rattle.std.proofs.lemmas.Bool.{false≢true, cases_order, cases_lt, lt-ltb, 
 use Rattle.std.proofs.lemmas.Bool.{and_right, or_left, or_right, or_cases}
 use Rattle.std.proofs.lemmas.List.Folds.{list_any-append}
 use Rattle.std.proofs.lemmas.List.{get_or_past}
-use Rattle.td_types.specs.Repository.{Declared, is_among}
+use Rattle.td_types.specs.Repository.{InterfaceBases, is_among}
 use Rattle.td_types.specs.Reaching.{declares, is_in, ArePlaces, AreLinks, id_at, bases_at, links_at}
 use Rattle.td_types.proofs.Chains.{same-bytes}
 
-pub declares-at : (declared : Declared) (ids : List (List ℕ)) (place : ℕ) (d : List ℕ × List (List ℕ))
+pub declares-at : (declared : InterfaceBases) (ids : List (List ℕ)) (place : ℕ) (d : List ℕ × List (List ℕ))
     → place < length declared → declares declared ids place ≡ is_among (get_or declared place d).0 ids
 declares-at [] ids place d h = absurd (omega (arith, h))
 declares-at (entry ∷ declared) ids zero d h = refl
 declares-at (entry ∷ declared) ids (suc place) d h = declares-at declared ids place d (omega (arith, h))
 
-pub declares-past : (declared : Declared) (ids : List (List ℕ)) (place : ℕ) → length declared ≤ place
+pub declares-past : (declared : InterfaceBases) (ids : List (List ℕ)) (place : ℕ) → length declared ≤ place
     → declares declared ids place ≡ false
 declares-past [] ids place h = refl
 declares-past (entry ∷ declared) ids zero h = absurd (omega (arith, h))
 declares-past (entry ∷ declared) ids (suc place) h = declares-past declared ids place (omega (arith, h))
 
-pub declares-within : (declared : Declared) (ids : List (List ℕ)) (place : ℕ) → declares declared ids place ≡ true
+pub declares-within : (declared : InterfaceBases) (ids : List (List ℕ)) (place : ℕ) → declares declared ids place ≡ true
     → place < length declared
 declares-within [] ids place h = absurd (false≢true h)
 declares-within (entry ∷ declared) ids zero h = omega arith
 declares-within (entry ∷ declared) ids (suc place) h = let i = declares-within declared ids place h in omega (arith, i)
 
-pub declares-none : (declared : Declared) (place : ℕ) → declares declared [] place ≡ false
+pub declares-none : (declared : InterfaceBases) (place : ℕ) → declares declared [] place ≡ false
 declares-none [] place = refl
 declares-none (entry ∷ declared) zero = refl
 declares-none (entry ∷ declared) (suc place) = declares-none declared place
 
 -- what is declared there is one of the ids
-pub declares-among : (declared : Declared) (ids : List (List ℕ)) (place : ℕ) → declares declared ids place ≡ true
+pub declares-among : (declared : InterfaceBases) (ids : List (List ℕ)) (place : ℕ) → declares declared ids place ≡ true
     → is_among (id_at declared place) ids ≡ true
 declares-among [] ids place h = absurd (false≢true h)
 declares-among (entry ∷ declared) ids zero h = h
@@ -48,7 +48,7 @@ among-one id known h =
     [ inl here ↦ same-bytes id known here | inr there ↦ absurd (false≢true there) ]
 
 -- one of the ids is declared there if this one is
-pub declares-one_of : (declared : Declared) (ids : List (List ℕ)) (id : List ℕ) (place : ℕ) → is_among id ids ≡ true
+pub declares-one_of : (declared : InterfaceBases) (ids : List (List ℕ)) (id : List ℕ) (place : ℕ) → is_among id ids ≡ true
     → declares declared (id ∷ []) place ≡ true → declares declared ids place ≡ true
 declares-one_of [] ids id place h d = d
 declares-one_of (entry ∷ declared) ids id zero h d = rw (among-one entry.0 id d) h
@@ -57,7 +57,7 @@ declares-one_of (entry ∷ declared) ids id (suc place) h d = declares-one_of de
 -- ---- a loop that finds the places
 
 -- those before n are found
-abbrev pub Placed : Declared → List (List ℕ) → List ℕ → ℕ → Type 0
+abbrev pub Placed : InterfaceBases → List (List ℕ) → List ℕ → ℕ → Type 0
 Placed declared ids places n = (place : ℕ) → is_in place places ≡ (nat_lt place n && declares declared ids place)
 
 none_more : (test : ℕ → Bool) (n place : ℕ) → test n ≡ false
@@ -106,17 +106,17 @@ one_more test n place h =
           ]
     ]
 
-pub placed_skip : (declared : Declared) (ids : List (List ℕ)) (places : List ℕ) (n : ℕ)
+pub placed_skip : (declared : InterfaceBases) (ids : List (List ℕ)) (places : List ℕ) (n : ℕ)
     → declares declared ids n ≡ false → Placed declared ids places n → Placed declared ids places (n + 1)
 placed_skip declared ids places n h p place = p place ∙ none_more (declares declared ids) n place h
 
-pub placed_push : (declared : Declared) (ids : List (List ℕ)) (places : List ℕ) (n : ℕ) → declares declared ids n ≡ true
+pub placed_push : (declared : InterfaceBases) (ids : List (List ℕ)) (places : List ℕ) (n : ℕ) → declares declared ids n ≡ true
     → Placed declared ids places n → Placed declared ids (places ++ n ∷ []) (n + 1)
 placed_push declared ids places n h p place =
     list_any-append (nat_eq place) places (n ∷ [])
     ∙ (ap (λ (b : Bool). b || (nat_eq place n || false)) (p place) ∙ one_more (declares declared ids) n place h)
 
-pub placed_all : (declared : Declared) (ids : List (List ℕ)) (places : List ℕ) (n : ℕ) → length declared ≤ n
+pub placed_all : (declared : InterfaceBases) (ids : List (List ℕ)) (places : List ℕ) (n : ℕ) → length declared ≤ n
     → Placed declared ids places n → ArePlaces declared ids places
 placed_all declared ids places n h p place =
     p place ∙ elim (cases_lt place n) [
@@ -126,7 +126,7 @@ placed_all declared ids places n h p place =
     ]
 
 -- what the loop's test says of the place
-pub declared_here : (declared : Declared) (ids : List (List ℕ)) (n : ℕ) (entry : List ℕ × List (List ℕ)) (id : List ℕ)
+pub declared_here : (declared : InterfaceBases) (ids : List (List ℕ)) (n : ℕ) (entry : List ℕ × List (List ℕ)) (id : List ℕ)
     (answer test : Bool)
     → n < length declared → entry ≡ get_or declared n entry → id ≡ entry.0 → answer ≡ is_among id ids → answer ≡ test
     → declares declared ids n ≡ test
@@ -137,10 +137,10 @@ declared_here declared ids n entry id answer test h r i a t =
 
 -- ---- a loop that finds the first place
 
-abbrev pub NoneBefore : Declared → List ℕ → ℕ → Type 0
+abbrev pub NoneBefore : InterfaceBases → List ℕ → ℕ → Type 0
 NoneBefore declared id n = (place : ℕ) → place < n → declares declared (id ∷ []) place ≡ false
 
-pub none_before_more : (declared : Declared) (id : List ℕ) (n : ℕ) (entry : List ℕ × List (List ℕ)) (known : List ℕ)
+pub none_before_more : (declared : InterfaceBases) (id : List ℕ) (n : ℕ) (entry : List ℕ × List (List ℕ)) (known : List ℕ)
     (answer : Bool)
     → n < length declared → entry ≡ get_or declared n entry → known ≡ entry.0 → answer ≡ bytes_eq known id
     → answer ≡ false → NoneBefore declared id n → NoneBefore declared id (n + 1)
@@ -153,7 +153,7 @@ none_before_more declared id n entry known answer h r i a t before place b =
           (ap (λ (x : Bool). x || false) a) (ap (λ (x : Bool). x || false) t))
     ]
 
-pub none_before_all : (declared : Declared) (id : List ℕ) (n : ℕ) → length declared ≤ n → NoneBefore declared id n
+pub none_before_all : (declared : InterfaceBases) (id : List ℕ) (n : ℕ) → length declared ≤ n → NoneBefore declared id n
     → (place : ℕ) → declares declared (id ∷ []) place ≡ false
 none_before_all declared id n h before place =
     elim (cases_lt place n) [
@@ -163,11 +163,11 @@ none_before_all declared id n h before place =
 
 -- ---- a loop that finds the links of each declaration
 
-pub record Linked (declared : Declared) (links : List (List ℕ)) (n : ℕ) : Type 0 where
+pub record Linked (declared : InterfaceBases) (links : List (List ℕ)) (n : ℕ) : Type 0 where
   pub count : length links ≡ n
   pub each : (place : ℕ) → place < n → ArePlaces declared (bases_at declared place) (links_at links place)
 
-pub linked_all : (declared : Declared) (links : List (List ℕ)) (n : ℕ) → n ≡ length declared → Linked declared links n
+pub linked_all : (declared : InterfaceBases) (links : List (List ℕ)) (n : ℕ) → n ≡ length declared → Linked declared links n
     → AreLinks declared links
 linked_all declared links n h l = record {
   count = l.count ∙ h;

@@ -17,10 +17,10 @@ use Rattle.td_value.specs.declared.structures.PropStruct.{PropStruct}
 use Rattle.td_types.proofs.Equal.{bytes_same}
 use Rattle.td_types.proofs.Rest.{rest}
 use Rattle.td_types.specs.Adding.{Definition, definitions, conflict, earlier_of, redefinition, or_else}
-use Rattle.td_types.specs.Firsts.{stated, first_at, AreFirsts}
+use Rattle.td_types.specs.Firsts.{definition_of, first_at, AreFirsts}
 use Rattle.td_types.specs.Properties.{is_called}
-use Rattle.td_types.specs.Judged.{Judges, inherited_from}
-use Rattle.td_types.specs.declared.entry.Entry.{Entry}
+use Rattle.td_types.specs.Judged.{IsFirstFault, inherited_from}
+use Rattle.td_types.specs.declared.entry.TypeEntry.{TypeEntry}
 use Rattle.td_types.specs.declared.fault.RepoFault.{RepoFault}
 use Rattle.td_types.specs.declared.fault.TypesFault.{TypesFault}
 use Rattle.td_types.specs.declared.fault.TypesFault.TheVariants.{User, Full, Memory}
@@ -32,13 +32,13 @@ Firsts = BTreeMap (Bor (List ℕ)) Given
 -- ---- judgements that are passed on
 
 pub passes : {X Y : Type 0} (given : X → Type 0) (asked : Y → Type 0) (fault total : Option RepoFault) (t : TypesFault)
-    → ((f : RepoFault) → fault ≡ Some f → total ≡ Some f) → Judges fault given (Err t) → Judges total asked (Err t)
-passes given asked fault total (User f) told h = told f h
-passes given asked fault total Full told h = absurd h
-passes given asked fault total Memory told h = tt
+    → ((f : RepoFault) → fault ≡ Some f → total ≡ Some f) → IsFirstFault fault given (Err t) → IsFirstFault total asked (Err t)
+passes given asked fault total (User f) content h = content f h
+passes given asked fault total Full content h = absurd h
+passes given asked fault total Memory content h = tt
 
 pub judged_with : (fault asked : Option RepoFault) (P : Type 0) (result : Result (Unit {0}) TypesFault) → asked ≡ fault
-    → P → Judges fault (λ _. Unit {0}) result → Judges asked (λ _. P) result
+    → P → IsFirstFault fault (λ _. Unit {0}) result → IsFirstFault asked (λ _. P) result
 judged_with fault asked P (Ok x) same p h = (same ∙ h.0, p)
 judged_with fault asked P (Err (User f)) same p h = same ∙ h
 judged_with fault asked P (Err Full) same p h = absurd h
@@ -55,8 +55,8 @@ same_find q [] = refl
 same_find q (e ∷ es) = rw (← is_eq-slice_cmp q.now e.0.now, ← same_find q es) refl
 
 pub found_first : (firsts : Firsts) (q : Bor (List ℕ)) (name : List ℕ) (x : Option Given) → q.now ≡ name
-    → x ≡ get_by (slice_order q) firsts → option_map stated x ≡ first_at firsts name
-found_first firsts q name x same h = rw (← same) (ap (option_map stated) (h ∙ same_find q firsts.entries))
+    → x ≡ get_by (slice_order q) firsts → option_map definition_of x ≡ first_at firsts name
+found_first firsts q name x same h = rw (← same) (ap (option_map definition_of) (h ∙ same_find q firsts.entries))
 
 kept_when : (b : Bool) (o y : Option Definition) → (b ≡ true → (x : Definition) × (o ≡ Some x))
     → o ≡ option_or o (cond b y None)
@@ -71,8 +71,8 @@ kept_there firsts key x y h name =
     kept_when (bytes_eq key name) (first_at firsts name) y
     (λ e. (x, ap (λ (n : List ℕ). first_at firsts n) (sym (bytes_same key name e)) ∙ sym h))
 
-put_when : (b : Bool) (old : Option Given) (v : Given) → (b ≡ true → option_map stated old ≡ None)
-    → option_map stated (cond b (Some v) old) ≡ option_or (option_map stated old) (cond b (Some (stated v)) None)
+put_when : (b : Bool) (old : Option Given) (v : Given) → (b ≡ true → option_map definition_of old ≡ None)
+    → option_map definition_of (cond b (Some v) old) ≡ option_or (option_map definition_of old) (cond b (Some (definition_of v)) None)
 put_when true old v h = rw (h refl) refl
 put_when false None v h = refl
 put_when false (Some x) v h = refl
@@ -81,14 +81,14 @@ pub put_there : (old new : Firsts) (key : Bor (List ℕ)) (name : List ℕ) (v :
     → None ≡ first_at old name
     → ((q : Bor (List ℕ)) → get slice_order new q ≡ cond (is_at (slice_order key) q) (Some v) (get slice_order old q))
     → (other : List ℕ)
-    → first_at new other ≡ option_or (first_at old other) (cond (bytes_eq name other) (Some (stated v)) None)
+    → first_at new other ≡ option_or (first_at old other) (cond (bytes_eq name other) (Some (definition_of v)) None)
 put_there old new key name v same h updated other =
     let q : Bor (List ℕ) = record key { now = other } in
     let found : lookup (λ k. bytes_eq other k.now) new.entries
     ≡ cond (bytes_eq name other) (Some v) (lookup (λ k. bytes_eq other k.now) old.entries) =
     sym (same_find q new.entries)
     ∙ (updated q ∙ (rw (is_eq-slice_cmp key.now other, same, same_find q old.entries) refl)) in
-    ap (option_map stated) found
+    ap (option_map definition_of) found
     ∙ put_when (bytes_eq name other) (lookup (λ k. bytes_eq other k.now) old.entries) v
     (λ e. ap (λ (n : List ℕ). first_at old n) (sym (bytes_same name other e)) ∙ sym h)
 
@@ -103,18 +103,18 @@ follows old new earlier d h k name =
 -- ---- one definition
 
 pub none_before : (firsts : Firsts) (earlier : List Definition) (name : List ℕ) (e : Option Given) (d : Definition)
-    → AreFirsts firsts earlier → option_map stated e ≡ first_at firsts name → e ≡ None
+    → AreFirsts firsts earlier → option_map definition_of e ≡ first_at firsts name → e ≡ None
     → conflict (earlier_of earlier name) d ≡ None
 none_before firsts earlier name e d h k is =
-    let no_earlier : earlier_of earlier name ≡ None = sym (h name) ∙ (sym k ∙ ap (option_map stated) is) in
+    let no_earlier : earlier_of earlier name ≡ None = sym (h name) ∙ (sym k ∙ ap (option_map definition_of) is) in
     ap (λ (o : Option Definition). conflict o d) no_earlier
 
 pub one_before : (firsts : Firsts) (earlier : List Definition) (name : List ℕ) (e : Option Given) (x : Given)
     (d : Definition)
-    → AreFirsts firsts earlier → option_map stated e ≡ first_at firsts name → e ≡ Some x
-    → conflict (earlier_of earlier name) d ≡ conflict (Some (stated x)) d
+    → AreFirsts firsts earlier → option_map definition_of e ≡ first_at firsts name → e ≡ Some x
+    → conflict (earlier_of earlier name) d ≡ conflict (Some (definition_of x)) d
 one_before firsts earlier name e x d h k is =
-    let one : earlier_of earlier name ≡ Some (stated x) = sym (h name) ∙ (sym k ∙ ap (option_map stated) is) in
+    let one : earlier_of earlier name ≡ Some (definition_of x) = sym (h name) ∙ (sym k ∙ ap (option_map definition_of) is) in
     ap (λ (o : Option Definition). conflict o d) one
 
 -- ---- a list of definitions
@@ -213,10 +213,10 @@ flat_map-append : {A B : Type 0} (f : A → List B) (xs ys : List A)
 flat_map-append f [] ys = refl
 flat_map-append f (x ∷ xs) ys = rw (flat_map-append f xs ys) (sym (append_assoc (f x) (flat_map f xs) (flat_map f ys)))
 
-abbrev pub entries_of : List (Bor Entry) → List Entry
-entries_of bases = map (λ (b : Bor Entry). b.now) bases
+abbrev pub entries_of : List (Bor TypeEntry) → List TypeEntry
+entries_of bases = map (λ (b : Bor TypeEntry). b.now) bases
 
-pub base_more : (bases : List (Bor Entry)) (i : ℕ) (b : Bor Entry) → i < length bases → b ≡ get_or bases i b
+pub base_more : (bases : List (Bor TypeEntry)) (i : ℕ) (b : Bor TypeEntry) → i < length bases → b ≡ get_or bases i b
     → inherited_from (entries_of (take (i + 1) bases))
     ≡ inherited_from (entries_of (take i bases)) ++ definitions b.now.service_type.name false b.now.full
 base_more bases i b lt is =
@@ -225,12 +225,12 @@ base_more bases i b lt is =
       take-suc bases i b lt,
       ← is,
       map-append,
-      flat_map-append (λ (e : Entry). definitions e.service_type.name false e.full) (entries_of (take i bases))
+      flat_map-append (λ (e : TypeEntry). definitions e.service_type.name false e.full) (entries_of (take i bases))
           (b.now ∷ []),
     )
     (rw (append-nil (definitions b.now.service_type.name false b.now.full)) refl)
 
-pub base_stops : (own : List Definition) (bases : List (Bor Entry)) (i : ℕ) (b : Bor Entry) (f : RepoFault)
+pub base_stops : (own : List Definition) (bases : List (Bor TypeEntry)) (i : ℕ) (b : Bor TypeEntry) (f : RepoFault)
     (total : Option RepoFault)
     → i < length bases → b ≡ get_or bases i b
     → redefinition (own ++ inherited_from (entries_of (take i bases))) (inherited_from (entries_of (drop i bases)))
@@ -252,7 +252,7 @@ base_stops own bases i b f total lt is so_far h =
     refl in
     sym so_far ∙ one
 
-pub base_goes_on : (own : List Definition) (bases : List (Bor Entry)) (i : ℕ) (b : Bor Entry) (total : Option RepoFault)
+pub base_goes_on : (own : List Definition) (bases : List (Bor TypeEntry)) (i : ℕ) (b : Bor TypeEntry) (total : Option RepoFault)
     → i < length bases → b ≡ get_or bases i b
     → redefinition (own ++ inherited_from (entries_of (take i bases))) (inherited_from (entries_of (drop i bases)))
     ≡ total
@@ -284,7 +284,7 @@ base_goes_on own bases i b total lt is so_far h =
     ap (λ (ds : List Definition). redefinition ds (inherited_from (entries_of (drop (i + 1) bases)))) (sym two)
     ∙ (sym one ∙ so_far)
 
-pub base_firsts : (new : Firsts) (own : List Definition) (bases : List (Bor Entry)) (i : ℕ) (b : Bor Entry)
+pub base_firsts : (new : Firsts) (own : List Definition) (bases : List (Bor TypeEntry)) (i : ℕ) (b : Bor TypeEntry)
     → i < length bases → b ≡ get_or bases i b
     → AreFirsts new ((own ++ inherited_from (entries_of (take i bases)))
     ++ definitions b.now.service_type.name false b.now.full)

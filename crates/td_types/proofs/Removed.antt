@@ -5,16 +5,16 @@ use Rattle.std.specs.List.{filter, AllByRecursion}
 use Rattle.std.specs.Option.{option_map}
 use Rattle.std.specs.Str.{bytes_eq}
 use Rattle.std.proofs.lemmas.Bool.{both_ways, cases_Bool}
-use Rattle.td_types.specs.declared.entry.Entry.{Entry}
+use Rattle.td_types.specs.declared.entry.TypeEntry.{TypeEntry}
 use Rattle.td_types.specs.declared.fault.RepoFault.TheVariants as fault
 use Rattle.td_types.specs.declared.reply.TypesReply.TheVariants as reply
 use Rattle.td_types.specs.Calls.{refuse, sub_type, remove_unless, without, remove_type}
 use Rattle.td_types.specs.Conforming.{once, walk, ancestors, conforms}
-use Rattle.td_types.specs.Kept.{kept, repository, IsKept, AreEntries}
+use Rattle.td_types.specs.Kept.{entry_type, repository, IsValidEntry, AreEntries}
 use Rattle.td_types.specs.Properties.{full, full_properties}
 use Rattle.td_types.specs.Removing.{sub_entry, without_entry}
-use Rattle.td_types.specs.Repository.{Repository, ServiceType, Declared, top, Founded, IsRepository}
-use Rattle.td_types.specs.Sought.{sought, entry_named}
+use Rattle.td_types.specs.Repository.{Repository, ServiceType, InterfaceBases, top, IsWellFounded, IsRepository}
+use Rattle.td_types.specs.Sought.{find_entry, entry_named}
 use Rattle.td_types.proofs.Chains.{same-bytes, bytes-same}
 use Rattle.td_types.proofs.Found.{known_found, found_named}
 use Rattle.td_types.proofs.Others.{others, IsNoSuper, filter-reverse, has-others, top-others, founded-others}
@@ -45,7 +45,7 @@ conforms-without types gone a b h differs =
 pub valid-without : (r : Repository) (gone : List ℕ) → IsNoSuper gone (reverse r.types) → IsRepository r
     → IsRepository (without r gone)
 valid-without r gone h valid = record {
-  founded = subst Founded (filter-reverse (others gone) r.types) (founded-others gone valid.founded h);
+  founded = subst IsWellFounded (filter-reverse (others gone) r.types) (founded-others gone valid.founded h);
   counted =
       let t = top-others gone valid.founded in
       let c = valid.counted in
@@ -54,20 +54,20 @@ valid-without r gone h valid = record {
 
 -- ---- their entries
 
-kept_or_not : (e : Entry) (b : Bool) (es : List Entry) (ts : List ServiceType) → map kept es ≡ ts
-    → map kept (cond b (e ∷ es) es) ≡ cond b (kept e ∷ ts) ts
-kept_or_not e true es ts h = ap (λ (xs : List ServiceType). kept e ∷ xs) h
+kept_or_not : (e : TypeEntry) (b : Bool) (es : List TypeEntry) (ts : List ServiceType) → map entry_type es ≡ ts
+    → map entry_type (cond b (e ∷ es) es) ≡ cond b (entry_type e ∷ ts) ts
+kept_or_not e true es ts h = ap (λ (xs : List ServiceType). entry_type e ∷ xs) h
 kept_or_not e false es ts h = h
 
-pub kept-without : (es : List Entry) (gone : List ℕ)
-    → map kept (without_entry es gone) ≡ filter (others gone) (map kept es)
+pub kept-without : (es : List TypeEntry) (gone : List ℕ)
+    → map entry_type (without_entry es gone) ≡ filter (others gone) (map entry_type es)
 kept-without [] gone = refl
 kept-without (e ∷ es) gone =
-    kept_or_not e (not (bytes_eq e.service_type.name gone)) (without_entry es gone) (filter (others gone) (map kept es))
+    kept_or_not e (not (bytes_eq e.service_type.name gone)) (without_entry es gone) (filter (others gone) (map entry_type es))
     (kept-without es gone)
 
-still-kept : (types : List ServiceType) (gone : List ℕ) → IsNoSuper gone (reverse types) → (es : List Entry)
-    → AllByRecursion (IsKept types) es → AllByRecursion (IsKept (filter (others gone) types)) (without_entry es gone)
+still-kept : (types : List ServiceType) (gone : List ℕ) → IsNoSuper gone (reverse types) → (es : List TypeEntry)
+    → AllByRecursion (IsValidEntry types) es → AllByRecursion (IsValidEntry (filter (others gone) types)) (without_entry es gone)
 still-kept types gone h [] k = tt
 still-kept types gone h (e ∷ es) k =
     let rest = still-kept types gone h es k.1 in
@@ -86,18 +86,18 @@ still-kept types gone h (e ∷ es) k =
           )
     ]
 
-pub repository-without : (es : List Entry) (interfaces : Declared) (last : ℕ) (gone : List ℕ)
+pub repository-without : (es : List TypeEntry) (interfaces : InterfaceBases) (last : ℕ) (gone : List ℕ)
     → repository (without_entry es gone) interfaces last ≡ without (repository es interfaces last) gone
 repository-without es interfaces last gone =
     ap (λ (ts : List ServiceType). record { types = ts; interfaces = interfaces; last = last }) (kept-without es gone)
 
-not-super : (es : List Entry) (interfaces : Declared) (last : ℕ) (gone : List ℕ) → AreEntries es interfaces last
-    → sub_entry es gone ≡ None → IsNoSuper gone (reverse (map kept es))
+not-super : (es : List TypeEntry) (interfaces : InterfaceBases) (last : ℕ) (gone : List ℕ) → AreEntries es interfaces last
+    → sub_entry es gone ≡ None → IsNoSuper gone (reverse (map entry_type es))
 not-super es interfaces last gone are h =
-    no-subtypes (map kept es) gone are.valid.founded
-    (sub_type-kept es interfaces last gone are.kept ∙ ap (option_map kept) h)
+    no-subtypes (map entry_type es) gone are.valid.founded
+    (sub_type-kept es interfaces last gone are.kept ∙ ap (option_map entry_type) h)
 
-pub entries-without : (es : List Entry) (interfaces : Declared) (last : ℕ) (gone : List ℕ)
+pub entries-without : (es : List TypeEntry) (interfaces : InterfaceBases) (last : ℕ) (gone : List ℕ)
     → AreEntries es interfaces last → sub_entry es gone ≡ None → AreEntries (without_entry es gone) interfaces last
 entries-without es interfaces last gone are h =
     let n = not-super es interfaces last gone are h in
@@ -106,44 +106,44 @@ entries-without es interfaces last gone are h =
           subst IsRepository (sym (repository-without es interfaces last gone))
           (valid-without (repository es interfaces last) gone n are.valid);
       kept =
-          subst (λ (ts : List ServiceType). AllByRecursion (IsKept ts) (without_entry es gone))
-          (sym (kept-without es gone)) (still-kept (map kept es) gone n es are.kept);
+          subst (λ (ts : List ServiceType). AllByRecursion (IsValidEntry ts) (without_entry es gone))
+          (sym (kept-without es gone)) (still-kept (map entry_type es) gone n es are.kept);
     }
 
 -- ---- what the call comes to
 
-named_when : (name : List ℕ) (x e : Entry) (b : Bool) (later : Option Entry) → bytes_eq x.service_type.name name ≡ b
+named_when : (name : List ℕ) (x e : TypeEntry) (b : Bool) (later : Option TypeEntry) → bytes_eq x.service_type.name name ≡ b
     → (later ≡ Some e → e.service_type.name ≡ name) → cond b (Some x) later ≡ Some e → e.service_type.name ≡ name
 named_when name x e true later t there h =
     let same : x ≡ e = cc in
-    subst (λ (y : Entry). y.service_type.name ≡ name) same (same-bytes x.service_type.name name t)
+    subst (λ (y : TypeEntry). y.service_type.name ≡ name) same (same-bytes x.service_type.name name t)
 named_when name x e false later t there h = there h
 
-pub found-name : (es : List Entry) (name : List ℕ) (e : Entry) → entry_named es name ≡ Some e
+pub found-name : (es : List TypeEntry) (name : List ℕ) (e : TypeEntry) → entry_named es name ≡ Some e
     → e.service_type.name ≡ name
 found-name [] name e h = absurd (let bad : ⊥ = cc in bad)
 found-name (x ∷ es) name e h =
     named_when name x e (bytes_eq x.service_type.name name) (entry_named es name) refl (found-name es name e) h
 
-pub removed : (es : List Entry) (interfaces : Declared) (last : ℕ) (name : List ℕ) (e : Entry)
-    → AreEntries es interfaces last → sought es name ≡ Ok e → sub_entry es name ≡ None
+pub removed : (es : List TypeEntry) (interfaces : InterfaceBases) (last : ℕ) (name : List ℕ) (e : TypeEntry)
+    → AreEntries es interfaces last → find_entry es name ≡ Ok e → sub_entry es name ≡ None
     → remove_type (repository es interfaces last) name
     ≡ Ok (reply.Removed, repository (without_entry es name) interfaces last)
 unfolding remove_type
 removed es interfaces last name e are h none =
     let r = repository es interfaces last in
     known_found es interfaces last name e (λ t. remove_unless r t (sub_type r name)) h
-    ∙ ap (remove_unless r (kept e)) (sub_type-kept es interfaces last name are.kept ∙ ap (option_map kept) none)
+    ∙ ap (remove_unless r (entry_type e)) (sub_type-kept es interfaces last name are.kept ∙ ap (option_map entry_type) none)
     ∙ ap (λ (n : List ℕ). Ok (reply.Removed, without r n)) (found-name es name e (found_named es name e h))
     ∙ ap (λ (after : Repository). Ok (reply.Removed, after)) (sym (repository-without es interfaces last name))
 
-pub has_sub : (es : List Entry) (interfaces : Declared) (last : ℕ) (name : List ℕ) (e sub : Entry)
-    → AreEntries es interfaces last → sought es name ≡ Ok e → sub_entry es name ≡ Some sub
+pub has_sub : (es : List TypeEntry) (interfaces : InterfaceBases) (last : ℕ) (name : List ℕ) (e sub : TypeEntry)
+    → AreEntries es interfaces last → find_entry es name ≡ Ok e → sub_entry es name ≡ Some sub
     → remove_type (repository es interfaces last) name ≡ refuse (fault.HasSubTypes name sub.service_type.name)
 unfolding remove_type
 has_sub es interfaces last name e sub are h some =
     let r = repository es interfaces last in
     known_found es interfaces last name e (λ t. remove_unless r t (sub_type r name)) h
-    ∙ ap (remove_unless r (kept e)) (sub_type-kept es interfaces last name are.kept ∙ ap (option_map kept) some)
+    ∙ ap (remove_unless r (entry_type e)) (sub_type-kept es interfaces last name are.kept ∙ ap (option_map entry_type) some)
     ∙ ap (λ (n : List ℕ). refuse (fault.HasSubTypes n sub.service_type.name))
     (found-name es name e (found_named es name e h))

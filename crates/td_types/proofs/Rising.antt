@@ -7,8 +7,8 @@ use Rattle.std.proofs.lemmas.List.{reverse-append, reverse-reverse, map-append, 
 use Rattle.std.proofs.lemmas.List.Elements.{filter-append}
 use Rattle.td_types.specs.Calls.{sub_type, is_listed}
 use Rattle.td_types.specs.Conforming.{conforms}
-use Rattle.td_types.specs.Laws.{Rises, IsOldestSubType}
-use Rattle.td_types.specs.Repository.{Repository, ServiceType, is_named, top, Founded, IsRepository}
+use Rattle.td_types.specs.Laws.{RisesAbove, IsOldestSubType}
+use Rattle.td_types.specs.Repository.{Repository, ServiceType, is_named, top, IsWellFounded, IsRepository}
 use Rattle.td_types.proofs.Chains.{same-bytes, bytes-same}
 
 all-weaker : (P Q : ServiceType → Type 0) (ts : List ServiceType) → ((t : ServiceType) → P t → Q t)
@@ -28,16 +28,16 @@ all-reverse P (t ∷ ts) h =
     subst (AllByRecursion P) (sym (reverse-append (t ∷ []) ts)) (all-end P (reverse ts) t (all-reverse P ts h.1) h.0)
 
 -- no incarnation is above the youngest's
-pub below-top : {ts : List ServiceType} → Founded ts → AllByRecursion (λ t. t.incarnation ≤ top ts) ts
-below-top Founded.none = tt
-below-top (Founded.more t older fresh supers higher f) = (
+pub below-top : {ts : List ServiceType} → IsWellFounded ts → AllByRecursion (λ t. t.incarnation ≤ top ts) ts
+below-top IsWellFounded.none = tt
+below-top (IsWellFounded.more t older fresh supers higher f) = (
   omega arith,
   all-weaker (λ x. x.incarnation ≤ top older) (λ x. x.incarnation ≤ t.incarnation) older
       (λ x h. omega (arith, h, higher)) (below-top f),
 )
 
-rises-end : (below : ℕ) (ns : List ℕ) (n : ℕ) → Rises below ns → below < n → AllByRecursion (λ m. m < n) ns
-    → Rises below (ns ++ n ∷ [])
+rises-end : (below : ℕ) (ns : List ℕ) (n : ℕ) → RisesAbove below ns → below < n → AllByRecursion (λ m. m < n) ns
+    → RisesAbove below (ns ++ n ∷ [])
 rises-end below [] n r h a = (h, tt)
 rises-end below (m ∷ ns) n r h a = (r.0, rises-end m ns n r.1 a.0 a.1)
 
@@ -53,15 +53,15 @@ incarnations-below : (test : ServiceType → Bool) (n : ℕ) (ts : List ServiceT
 incarnations-below test n [] h = tt
 incarnations-below test n (t ∷ ts) h = below-one test n t (test t) ts h.0 (incarnations-below test n ts h.1)
 
-one-more : (ns : List ℕ) (t : ServiceType) (b : Bool) → Rises 0 ns → 0 < t.incarnation
-    → AllByRecursion (λ m. m < t.incarnation) ns → Rises 0 (ns ++ map (λ t. t.incarnation) (cond b (t ∷ []) []))
+one-more : (ns : List ℕ) (t : ServiceType) (b : Bool) → RisesAbove 0 ns → 0 < t.incarnation
+    → AllByRecursion (λ m. m < t.incarnation) ns → RisesAbove 0 (ns ++ map (λ t. t.incarnation) (cond b (t ∷ []) []))
 one-more ns t true r h a = rises-end 0 ns t.incarnation r h a
-one-more ns t false r h a = subst (Rises 0) (sym (append-nil ns)) r
+one-more ns t false r h a = subst (RisesAbove 0) (sym (append-nil ns)) r
 
-rising : (test : ServiceType → Bool) {ts : List ServiceType} → Founded ts
-    → Rises 0 (map (λ t. t.incarnation) (filter test (reverse ts)))
-rising test Founded.none = tt
-rising test (Founded.more t older fresh supers higher f) =
+rising : (test : ServiceType → Bool) {ts : List ServiceType} → IsWellFounded ts
+    → RisesAbove 0 (map (λ t. t.incarnation) (filter test (reverse ts)))
+rising test IsWellFounded.none = tt
+rising test (IsWellFounded.more t older fresh supers higher f) =
     let number : ServiceType → ℕ = λ x. x.incarnation in
     let ns = map number (filter test (reverse older)) in
     let split : map number (filter test (reverse (t ∷ older))) ≡ ns ++ map number (cond (test t) (t ∷ []) []) =
@@ -72,15 +72,15 @@ rising test (Founded.more t older fresh supers higher f) =
     all-reverse (λ x. x.incarnation < t.incarnation) older
     (all-weaker (λ x. x.incarnation ≤ top older) (λ x. x.incarnation < t.incarnation) older
     (λ x h. omega (arith, h, higher)) (below-top f)) in
-    subst (Rises 0) (sym split)
+    subst (RisesAbove 0) (sym split)
     (one-more ns t (test t) (rising test f) (omega (arith, higher))
     (incarnations-below test t.incarnation (reverse older) under))
 
 -- the incarnations of those that pass a test
 pub incarnations-rise : (r : Repository) (test : ServiceType → Bool) → IsRepository r
-    → Rises 0 (map (λ t. t.incarnation) (filter test r.types))
+    → RisesAbove 0 (map (λ t. t.incarnation) (filter test r.types))
 incarnations-rise r test valid =
-    subst (λ (ts : List ServiceType). Rises 0 (map (λ t. t.incarnation) (filter test ts))) (reverse-reverse r.types)
+    subst (λ (ts : List ServiceType). RisesAbove 0 (map (λ t. t.incarnation) (filter test ts))) (reverse-reverse r.types)
     (rising test valid.founded)
 
 pub below-last : (r : Repository) (n : ℕ) → r.last < n → IsRepository r
@@ -94,7 +94,7 @@ below-last r n h valid =
 
 -- ---- the first one that passes a test is the oldest
 
-all-above : (n : ℕ) (ts : List ServiceType) → Rises n (map (λ t. t.incarnation) ts)
+all-above : (n : ℕ) (ts : List ServiceType) → RisesAbove n (map (λ t. t.incarnation) ts)
     → AllByRecursion (λ t. n ≤ t.incarnation) ts
 all-above n [] r = tt
 all-above n (t ∷ ts) r =
@@ -105,7 +105,7 @@ all-above n (t ∷ ts) r =
     )
 
 oldest-of : (test : ServiceType → Bool) (t : ServiceType) (b : Bool) (ts : List ServiceType) (sub : ServiceType)
-    → test t ≡ b → Rises t.incarnation (map (λ t. t.incarnation) ts)
+    → test t ≡ b → RisesAbove t.incarnation (map (λ t. t.incarnation) ts)
     → (find test ts ≡ Some sub → AllByRecursion (λ x. test x ≡ true → sub.incarnation ≤ x.incarnation) ts)
     → cond b (Some t) (find test ts) ≡ Some sub
     → AllByRecursion (λ x. test x ≡ true → sub.incarnation ≤ x.incarnation) (t ∷ ts)
@@ -119,7 +119,7 @@ oldest-of test t true ts sub e r later h =
 oldest-of test t false ts sub e r later h = ((λ p. absurd (both_ways (test t) e p)), later h)
 
 oldest : (test : ServiceType → Bool) (below : ℕ) (ts : List ServiceType) (sub : ServiceType)
-    → Rises below (map (λ t. t.incarnation) ts) → find test ts ≡ Some sub
+    → RisesAbove below (map (λ t. t.incarnation) ts) → find test ts ≡ Some sub
     → AllByRecursion (λ x. test x ≡ true → sub.incarnation ≤ x.incarnation) ts
 oldest test below [] sub r h = tt
 oldest test below (t ∷ ts) sub r h = oldest-of test t (test t) ts sub refl r.1 (oldest test t.incarnation ts sub r.1) h
@@ -144,8 +144,8 @@ pub oldest-sub_type : (r : Repository) (name : List ℕ) (sub : ServiceType) →
 oldest-sub_type r name sub valid h =
     let test : ServiceType → Bool = λ t. not (is_named name t) && conforms r.types t.name name in
     let p = and_parts (not (is_named name sub)) (conforms r.types sub.name name) (passes test r.types sub h) in
-    let rise : Rises 0 (map (λ t. t.incarnation) r.types) =
-    subst (λ (ts : List ServiceType). Rises 0 (map (λ t. t.incarnation) ts)) (keeps-all r.types)
+    let rise : RisesAbove 0 (map (λ t. t.incarnation) r.types) =
+    subst (λ (ts : List ServiceType). RisesAbove 0 (map (λ t. t.incarnation) ts)) (keeps-all r.types)
     (incarnations-rise r (is_listed None) valid) in
     record {
       conforming = p.1;

@@ -7,7 +7,7 @@ use Rattle.std.proofs.lemmas.Bool.{false≢true, both_ways, cases_Bool, or_cases
 use Rattle.std.proofs.lemmas.Bool.{and_from}
 use Rattle.std.proofs.lemmas.List.{reverse-append, append_assoc, append-nil}
 use Rattle.std.proofs.lemmas.List.Folds.{list_any-append}
-use Rattle.td_codes.specs.Same.{same}
+use Rattle.td_typecode.specs.Same.{same}
 use Rattle.td_value.specs.declared.enumerations.PropertyMode.{PropertyMode}
 use Rattle.td_value.specs.declared.structures.PropStruct.{PropStruct}
 use Rattle.td_types.specs.declared.fault.RepoFault.{RepoFault}
@@ -18,7 +18,8 @@ use Rattle.td_types.specs.Adding.{with_type}
 use Rattle.td_types.specs.Calls.{add_fault, add_type}
 use Rattle.td_types.specs.Laws.{is_as_strong, AreAsStrong}
 use Rattle.td_types.specs.Modes.{is_mandatory, is_readonly, mode_of, is_at_least, join}
-use Rattle.td_types.specs.Properties.{is_called, has_property, joined_mode, newcomers, strengthened, with_inherited}
+use Rattle.td_types.specs.Properties.{is_called, has_property, joined_mode, newcomers, with_stronger_mode}
+use Rattle.td_types.specs.Properties.{with_inherited}
 use Rattle.td_types.specs.Properties.{full, full_properties}
 use Rattle.td_types.specs.Repository.{Repository, ServiceType, is_among}
 use Rattle.td_types.proofs.Chains.{same-bytes, bytes-same}
@@ -124,17 +125,17 @@ all-new own (p ∷ ps) = new_step own p ps (has_property own p.name) refl (all-n
 
 -- with the joined mode it is strong enough
 strong-new : (all news : List PropStruct) (p : PropStruct) → Joins all p → list_any (is_called p.name) news ≡ true
-    → list_any (is_as_strong p) (map (strengthened all) news) ≡ true
+    → list_any (is_as_strong p) (map (with_stronger_mode all) news) ≡ true
 strong-new all [] p j h = absurd (false≢true h)
 strong-new all (q ∷ news) p j h =
     elim (or_cases (is_called p.name q) (list_any (is_called p.name) news) h) [
       | inl here ↦
-          or_left (is_as_strong p (strengthened all q)) (list_any (is_as_strong p) (map (strengthened all) news))
+          or_left (is_as_strong p (with_stronger_mode all q)) (list_any (is_as_strong p) (map (with_stronger_mode all) news))
           (and_from (is_called p.name q) (is_at_least (joined_mode all q.name) p.mode) here
           (subst (λ (n : List ℕ). is_at_least (joined_mode all n) p.mode ≡ true)
           (sym (same-bytes q.name p.name here)) j))
-      | inr there ↦ or_right (is_as_strong p (strengthened all q))
-          (list_any (is_as_strong p) (map (strengthened all) news)) (strong-new all news p j there)
+      | inr there ↦ or_right (is_as_strong p (with_stronger_mode all q))
+          (list_any (is_as_strong p) (map (with_stronger_mode all) news)) (strong-new all news p j there)
     ]
 
 -- ---- a type's own properties
@@ -214,12 +215,12 @@ three : (own all : List PropStruct) (ps : List PropStruct) → AllByRecursion (I
     → AllByRecursion (λ p. list_any (is_as_strong p) (with_inherited own all) ≡ true) ps
 three own all [] o n j = tt
 three own all (p ∷ ps) o n j = (
-  list_any-append (is_as_strong p) own (map (strengthened all) (newcomers own all))
+  list_any-append (is_as_strong p) own (map (with_stronger_mode all) (newcomers own all))
       ∙ elim (cases_Bool (has_property own p.name)) [
         | inl there ↦ or_left (list_any (is_as_strong p) own)
-            (list_any (is_as_strong p) (map (strengthened all) (newcomers own all))) (o.0 there)
+            (list_any (is_as_strong p) (map (with_stronger_mode all) (newcomers own all))) (o.0 there)
         | inr lacks ↦ or_right (list_any (is_as_strong p) own)
-            (list_any (is_as_strong p) (map (strengthened all) (newcomers own all)))
+            (list_any (is_as_strong p) (map (with_stronger_mode all) (newcomers own all)))
             (strong-new all (newcomers own all) p j.0 (n.0 lacks))
       ],
   three own all ps o.1 n.1 j.1,
@@ -245,11 +246,11 @@ no-redefinition r name if_name props supers h =
     (redefinition (definitions name true props) (inherited_definitions r supers)) b.1).1
 
 pub as-strong : (r after : Repository) (name if_name : List ℕ) (props : List PropStruct) (supers : List (List ℕ))
-    (told : TypesReply)
-    → add_type r name if_name props supers ≡ Ok (told, after) → (super : List ℕ) → is_among super supers ≡ true
+    (content : TypesReply)
+    → add_type r name if_name props supers ≡ Ok (content, after) → (super : List ℕ) → is_among super supers ≡ true
     → AreAsStrong (full_properties after.types name) (full_properties r.types super)
-as-strong r after name if_name props supers told h super among =
-    let f = after_adding r name if_name props supers told after h in
+as-strong r after name if_name props supers content h super among =
+    let f = after_adding r name if_name props supers content after h in
     let all = flat_map (full_properties r.types) supers in
     let is_after : with_type r (new_type r name if_name props supers) ≡ after =
     ap (λ (p : TypesReply × Repository). p.1) f.1 in

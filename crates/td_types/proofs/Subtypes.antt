@@ -7,12 +7,12 @@ use Rattle.std.specs.Str.{bytes_eq}
 use Rattle.std.proofs.lemmas.Bool.{false≢true, both_ways, cases_Bool, or_cases, or_parts, or_left, or_right, and_parts}
 use Rattle.std.proofs.lemmas.Bool.{and_from, false_from_ne_true}
 use Rattle.std.proofs.lemmas.List.Folds.{list_any-append}
-use Rattle.td_types.specs.declared.entry.Entry.{Entry}
+use Rattle.td_types.specs.declared.entry.TypeEntry.{TypeEntry}
 use Rattle.td_types.specs.Calls.{sub_type}
 use Rattle.td_types.specs.Conforming.{add_once, once, walk, ancestors, conforms}
-use Rattle.td_types.specs.Kept.{kept, repository, IsKept}
+use Rattle.td_types.specs.Kept.{entry_type, repository, IsValidEntry}
 use Rattle.td_types.specs.Removing.{sub_entry}
-use Rattle.td_types.specs.Repository.{ServiceType, Declared, is_named, has_type, is_among, Founded}
+use Rattle.td_types.specs.Repository.{ServiceType, InterfaceBases, is_named, has_type, is_among, IsWellFounded}
 use Rattle.td_types.proofs.Chains.{same-bytes, bytes-same}
 use Rattle.td_types.proofs.Others.{any-agree, any-reverse, none-found, others, lists_super, IsNoSuper}
 
@@ -85,10 +85,10 @@ older-walks gone t older (x ∷ ts) h =
     (λ e. both_ways (is_named t.name x) p.0 (bytes-same x.name t.name (sym (same-bytes t.name x.name e)))) in
     (rw other refl, older-walks gone t older ts p.1)
 
-pub supers-walk : (gone : List ℕ) {ts : List ServiceType} → Founded ts → list_any (lists_super gone) ts ≡ true
+pub supers-walk : (gone : List ℕ) {ts : List ServiceType} → IsWellFounded ts → list_any (lists_super gone) ts ≡ true
     → list_any (walks_to gone ts) ts ≡ true
-supers-walk gone Founded.none h = h
-supers-walk gone (Founded.more t older fresh supers higher f) h =
+supers-walk gone IsWellFounded.none h = h
+supers-walk gone (IsWellFounded.more t older fresh supers higher f) h =
     elim (or_cases (lists_super gone t) (list_any (lists_super gone) older) h) [
       | inl here ↦
           let p = and_parts (others gone t) (is_among gone t.supers) here in
@@ -138,7 +138,7 @@ subs-agree types gone (t ∷ ts) h = (
 )
 
 -- where no other type conforms to it, no other type has it as a supertype
-pub no-subtypes : (types : List ServiceType) (gone : List ℕ) → Founded (reverse types)
+pub no-subtypes : (types : List ServiceType) (gone : List ℕ) → IsWellFounded (reverse types)
     → find (is_sub types gone) types ≡ None → IsNoSuper gone (reverse types)
 no-subtypes types gone f h =
     false_from_ne_true (list_any (lists_super gone) (reverse types)) (λ e.
@@ -148,27 +148,27 @@ no-subtypes types gone f h =
 
 -- ---- the first one, by the entries
 
-first_sub : (e : Entry) (b c : Bool) (type : Option ServiceType) (entry : Option Entry) → b ≡ c
-    → type ≡ option_map kept entry → cond b (Some (kept e)) type ≡ option_map kept (cond c (Some e) entry)
+first_sub : (e : TypeEntry) (b c : Bool) (type : Option ServiceType) (entry : Option TypeEntry) → b ≡ c
+    → type ≡ option_map entry_type entry → cond b (Some (entry_type e)) type ≡ option_map entry_type (cond c (Some e) entry)
 first_sub e true true type entry same h = refl
 first_sub e true false type entry same h = absurd (false≢true (sym same))
 first_sub e false true type entry same h = absurd (false≢true same)
 first_sub e false false type entry same h = h
 
-sub-of_entries : (types : List ServiceType) (gone : List ℕ) (es : List Entry)
-    → AllByRecursion (λ t. has_type types t.name ≡ true) (map kept es) → AllByRecursion (IsKept types) es
-    → find (is_sub types gone) (map kept es) ≡ option_map kept (sub_entry es gone)
+sub-of_entries : (types : List ServiceType) (gone : List ℕ) (es : List TypeEntry)
+    → AllByRecursion (λ t. has_type types t.name ≡ true) (map entry_type es) → AllByRecursion (IsValidEntry types) es
+    → find (is_sub types gone) (map entry_type es) ≡ option_map entry_type (sub_entry es gone)
 sub-of_entries types gone [] h k = refl
 sub-of_entries types gone (e ∷ es) h k =
-    first_sub e (is_sub types gone (kept e)) (not (bytes_eq e.service_type.name gone) && is_among gone e.ancestors)
-    (find (is_sub types gone) (map kept es)) (sub_entry es gone)
+    first_sub e (is_sub types gone (entry_type e)) (not (bytes_eq e.service_type.name gone) && is_among gone e.ancestors)
+    (find (is_sub types gone) (map entry_type es)) (sub_entry es gone)
     (sub-test (has_type types e.service_type.name) (bytes_eq e.service_type.name gone)
     (is_among gone (ancestors types e.service_type.name)) h.0
     ∙ ap (λ (names : List (List ℕ)). not (bytes_eq e.service_type.name gone) && is_among gone names)
     (sym k.0.ancestors))
     (sub-of_entries types gone es h.1 k.1)
 
-pub sub_type-kept : (es : List Entry) (interfaces : Declared) (last : ℕ) (gone : List ℕ)
-    → AllByRecursion (IsKept (map kept es)) es
-    → sub_type (repository es interfaces last) gone ≡ option_map kept (sub_entry es gone)
-sub_type-kept es interfaces last gone k = sub-of_entries (map kept es) gone es (has-each (map kept es)) k
+pub sub_type-kept : (es : List TypeEntry) (interfaces : InterfaceBases) (last : ℕ) (gone : List ℕ)
+    → AllByRecursion (IsValidEntry (map entry_type es)) es
+    → sub_type (repository es interfaces last) gone ≡ option_map entry_type (sub_entry es gone)
+sub_type-kept es interfaces last gone k = sub-of_entries (map entry_type es) gone es (has-each (map entry_type es)) k

@@ -8,7 +8,7 @@ use Rattle.std.proofs.lemmas.List.Folds.{list_any-append}
 use Rattle.std.proofs.lemmas.List.{get_or_read, get_or-set_same, get_or-set_other, length-set, length-append}
 use Rattle.std.proofs.lemmas.List.{get_or_append_left, get_or_push, get_or_past}
 use Rattle.td_types.specs.Reaching.{is_in, is_marked, links_at, IsLeast}
-use Rattle.td_types.specs.Marking.{Marks, AreMarked, AreQueued, unmarked}
+use Rattle.td_types.specs.Marking.{Marks, AreMarked, AreQueued, count_unmarked}
 
 in-push : (place : ℕ) (places : List ℕ) (p : ℕ) → is_in place (places ++ p ∷ []) ≡ true
     → (is_in place places ≡ true) ⊎ (place ≡ p)
@@ -67,7 +67,7 @@ marked-only marks p place m =
     ]
 
 unmarked-set : (marks : List Bool) (p : ℕ) → p < length marks → is_marked marks p ≡ false
-    → unmarked (set marks p true) + 1 ≡ unmarked marks
+    → count_unmarked (set marks p true) + 1 ≡ count_unmarked marks
 unmarked-set [] p h e = absurd (omega (arith, h))
 unmarked-set (mark ∷ marks) zero h e = rw e (omega arith)
 unmarked-set (mark ∷ marks) (suc p) h e = let i = unmarked-set marks p (omega (arith, h)) e in omega (arith, i)

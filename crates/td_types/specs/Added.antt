@@ -5,15 +5,15 @@ use Rattle.td_value.specs.Structures.{type_struct}
 use Rattle.td_value.specs.declared.structures.PropStruct.{PropStruct}
 use Rattle.td_types.specs.Adding.{most_bytes, with_type}
 use Rattle.td_types.specs.Calls.{add_type, refuse}
-use Rattle.td_types.specs.Kept.{kept, kept_description, repository, AreEntries}
-use Rattle.td_types.specs.Repository.{Declared, has_type}
-use Rattle.td_types.specs.declared.entry.Entry.{Entry}
+use Rattle.td_types.specs.Kept.{entry_type, kept_description, repository, AreEntries}
+use Rattle.td_types.specs.Repository.{InterfaceBases, has_type}
+use Rattle.td_types.specs.declared.entry.TypeEntry.{TypeEntry}
 use Rattle.td_types.specs.declared.fault.TypesFault.{TypesFault}
 use Rattle.td_types.specs.declared.fault.TypesFault.TheVariants.{User, Full, Memory}
 use Rattle.td_types.specs.declared.reply.TypesReply.TheVariants as reply
 
 abbrev pub entry_of : (incarnation : ℕ) (name if_name : List ℕ) → List PropStruct → List (List ℕ)
-    → List PropStruct → List (List ℕ) → Entry
+    → List PropStruct → List (List ℕ) → TypeEntry
 entry_of incarnation name if_name props supers full above =
     record {
       service_type =
@@ -29,12 +29,12 @@ entry_of incarnation name if_name props supers full above =
       full = full;
     }
 
-abbrev pub described_bytes : Entry → ℕ
+abbrev pub described_bytes : TypeEntry → ℕ
 described_bytes e = length (type_struct.format.writes (kept_description e) Big 0)
 
 -- the entry of these parts, whose full description is short enough
 abbrev pub IsMeasured : (incarnation : ℕ) (name if_name : List ℕ) → List PropStruct → List (List ℕ)
-    → List PropStruct → List (List ℕ) → Result Entry TypesFault → Type 0
+    → List PropStruct → List (List ℕ) → Result TypeEntry TypesFault → Type 0
 IsMeasured incarnation name if_name props supers full above (Ok e) =
     (e ≡ entry_of incarnation name if_name props supers full above)
     × (described_bytes e ≤ most_bytes)
@@ -44,17 +44,18 @@ IsMeasured incarnation name if_name props supers full above (Err Full) =
 IsMeasured incarnation name if_name props supers full above (Err Memory) = Unit {0}
 
 -- the answer with the new entry, which is kept beside the others; or the refusal
-abbrev pub IsPrepared : List Entry → Declared → (last : ℕ) (name if_name : List ℕ) → List PropStruct
-    → List (List ℕ) → Result Entry TypesFault → Type 0
+abbrev pub IsPrepared : List TypeEntry → InterfaceBases → (last : ℕ) (name if_name : List ℕ)
+    → List PropStruct
+    → List (List ℕ) → Result TypeEntry TypesFault → Type 0
 IsPrepared entries interfaces last name if_name props supers (Ok e) =
     (add_type (repository entries interfaces last) name if_name props supers
     ≡ Ok (
       reply.Added e.service_type.incarnation,
       with_type (repository entries interfaces last)
-          (kept e),
+          (entry_type e),
     ))
     × AreEntries (entries ++ e ∷ []) interfaces e.service_type.incarnation
-    × (has_type (map kept entries) e.service_type.name ≡ false)
+    × (has_type (map entry_type entries) e.service_type.name ≡ false)
 IsPrepared entries interfaces last name if_name props supers (Err (User f)) =
     add_type (repository entries interfaces last) name if_name props supers ≡ refuse f
 IsPrepared entries interfaces last name if_name props supers (Err Full) =

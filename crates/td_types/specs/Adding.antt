@@ -4,7 +4,7 @@ use Rattle.std.specs.Prelude.{ℕ, ◌+◌, ◌^◌, nat_lt, Bool, false, not, �
 use Rattle.std.specs.Prelude.{length, map, flat_map, find, Option, None, Some}
 use Rattle.td_cdr.specs.Names.{word_name, identifier}
 use Rattle.td_cdr.specs.declared.order.Order.TheVariants.{Big}
-use Rattle.td_codes.specs.Same.{same}
+use Rattle.td_typecode.specs.Same.{same}
 use Rattle.td_value.specs.Structures.{type_struct}
 use Rattle.td_value.specs.declared.structures.PropStruct.{PropStruct}
 use Rattle.td_types.specs.Descriptions.{full_description}

@@ -16,14 +16,14 @@ use Rattle.td_types.specs.declared.reply.TypesReply.{TypesReply}
 use Rattle.td_types.specs.declared.reply.TypesReply.TheVariants as reply
 
 -- a reply with the repository behind it, or a refusal, which leaves the repository as it was
-abbrev pub Comes : Type 0
-Comes = Result (TypesReply × Repository) TypesFault
+abbrev pub RepositoryResult : Type 0
+RepositoryResult = Result (TypesReply × Repository) TypesFault
 
-abbrev pub refuse : RepoFault → Comes
+abbrev pub refuse : RepoFault → RepositoryResult
 refuse f = Err (User f)
 
 -- refused for this cause if there is one
-abbrev pub unless : Option RepoFault → Comes → Comes
+abbrev pub unless : Option RepoFault → RepositoryResult → RepositoryResult
 unless None comes = comes
 unless (Some f) comes = refuse f
 
@@ -38,7 +38,7 @@ add_fault r name if_name props supers =
     (redefinition (definitions name true props) (inherited_definitions r supers))))
 
 unfoldable pub add_type : Repository → (name if_name : List ℕ) → List PropStruct → List (List ℕ)
-    → Comes
+    → RepositoryResult
 add_type r name if_name props supers =
     let t = new_type r name if_name props supers in
     unless (add_fault r name if_name props supers)
@@ -47,21 +47,23 @@ add_type r name if_name props supers =
 
 -- ---- a type by its name
 
-abbrev pub act_on : Option ServiceType → List ℕ → (ServiceType → Comes) → Comes
+abbrev pub act_on : Option ServiceType → List ℕ → (ServiceType → RepositoryResult)
+    → RepositoryResult
 act_on None name act = refuse (fault.UnknownServiceType name)
 act_on (Some t) name act = act t
 
 -- what is done with the type of that name
-abbrev pub known : Repository → List ℕ → (ServiceType → Comes) → Comes
-known r name act =
+abbrev pub on_type : Repository → List ℕ → (ServiceType → RepositoryResult) → RepositoryResult
+on_type r name act =
     if word_name name then act_on (type_named r.types name) name act else refuse
     (fault.IllegalServiceType name)
 
-unfoldable pub describe_type : Repository → List ℕ → Comes
-describe_type r name = known r name λ t. Ok (reply.Described (description t), r)
+unfoldable pub describe_type : Repository → List ℕ → RepositoryResult
+describe_type r name = on_type r name λ t. Ok (reply.Described (description t), r)
 
-unfoldable pub fully_describe_type : Repository → List ℕ → Comes
-fully_describe_type r name = known r name λ t. Ok (reply.Described (full_description r.types t), r)
+unfoldable pub fully_describe_type : Repository → List ℕ → RepositoryResult
+fully_describe_type r name = on_type r name
+    λ t. Ok (reply.Described (full_description r.types t), r)
 
 -- ---- removing and masking
 
@@ -72,26 +74,26 @@ without r name = record r { types = filter (λ t. not (is_named name t)) r.types
 abbrev pub sub_type : Repository → List ℕ → Option ServiceType
 sub_type r name = find (λ t. not (is_named name t) && conforms r.types t.name name) r.types
 
-abbrev pub remove_unless : Repository → ServiceType → Option ServiceType → Comes
+abbrev pub remove_unless : Repository → ServiceType → Option ServiceType → RepositoryResult
 remove_unless r t None = Ok (reply.Removed, without r t.name)
 remove_unless r t (Some sub) = refuse (fault.HasSubTypes t.name sub.name)
 
-unfoldable pub remove_type : Repository → List ℕ → Comes
-remove_type r name = known r name λ t. remove_unless r t (sub_type r name)
+unfoldable pub remove_type : Repository → List ℕ → RepositoryResult
+remove_type r name = on_type r name λ t. remove_unless r t (sub_type r name)
 
 abbrev pub set_mask : Repository → List ℕ → Bool → Repository
 set_mask r name masked = record r {
   types = map (λ t. if is_named name t then record t { masked = masked } else t) r.types;
 }
 
-unfoldable pub mask_type : Repository → List ℕ → Comes
+unfoldable pub mask_type : Repository → List ℕ → RepositoryResult
 mask_type r name =
-    known r name λ t. if t.masked then refuse (fault.AlreadyMasked name) else Ok
+    on_type r name λ t. if t.masked then refuse (fault.AlreadyMasked name) else Ok
     (reply.Masked, set_mask r name true)
 
-unfoldable pub unmask_type : Repository → List ℕ → Comes
+unfoldable pub unmask_type : Repository → List ℕ → RepositoryResult
 unmask_type r name =
-    known r name λ t. if t.masked then Ok (reply.Unmasked, set_mask r name false) else refuse
+    on_type r name λ t. if t.masked then Ok (reply.Unmasked, set_mask r name false) else refuse
     (fault.NotMasked name)
 
 -- ---- listing
@@ -101,21 +103,23 @@ abbrev pub is_listed : Option ℕ → ServiceType → Bool
 is_listed None t = true
 is_listed (Some since) t = nat_le since t.incarnation
 
-unfoldable pub list_types : Repository → Option ℕ → Comes
+unfoldable pub list_types : Repository → Option ℕ → RepositoryResult
 list_types r since = Ok (reply.Names (map (λ t. t.name) (filter (is_listed since) r.types)), r)
 
 -- ---- clauses
 
--- The call is answered as it is said, and the repository is then as it is said; or memory was wanted, and nothing
+-- The call is answered as it is said, and the repository is then as it is said; or memory ran out, and nothing
 -- changed.
-abbrev pub Answers : Comes → (old new : Repository) → Result TypesReply TypesFault → Type 0
-Answers comes old new (Ok reply) = comes ≡ Ok (reply, new)
-Answers comes old new (Err (User f)) = (comes ≡ refuse f) × (new ≡ old)
-Answers comes old new (Err Full) = (comes ≡ Err Full) × (new ≡ old)
-Answers comes old new (Err Memory) = new ≡ old
+abbrev pub AnswersRepositoryCall : RepositoryResult → (old new : Repository)
+    → Result TypesReply TypesFault → Type 0
+AnswersRepositoryCall comes old new (Ok reply) = comes ≡ Ok (reply, new)
+AnswersRepositoryCall comes old new (Err (User f)) = (comes ≡ refuse f) × (new ≡ old)
+AnswersRepositoryCall comes old new (Err Full) = (comes ≡ Err Full) × (new ≡ old)
+AnswersRepositoryCall comes old new (Err Memory) = new ≡ old
 
--- As above, and memory is wanted for a refusal alone.
-abbrev pub AnswersFreely : Comes → (old new : Repository) → Result TypesReply TypesFault → Type 0
+-- As above, and memory runs out for a refusal alone.
+abbrev pub AnswersFreely : RepositoryResult → (old new : Repository) → Result TypesReply TypesFault
+    → Type 0
 AnswersFreely comes old new (Ok reply) = comes ≡ Ok (reply, new)
 AnswersFreely comes old new (Err (User f)) = (comes ≡ refuse f) × (new ≡ old)
 AnswersFreely comes old new (Err Full) = ⊥

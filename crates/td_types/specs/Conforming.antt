@@ -11,14 +11,14 @@ pub record IsSuper (types : List ServiceType) (a b : List ℕ) : Type 0 where
   pub declared : IsTrue (is_among b type.supers)
 
 -- from a type's name over these to the last, each a declared supertype of the one before
-abbrev pub Leads : List ServiceType → List ℕ → List (List ℕ) → List ℕ → Type 0
-Leads types a [] b = IsTrue (has_type types a) × (a ≡ b)
-Leads types a (c ∷ cs) b = IsSuper types a c × Leads types c cs b
+abbrev pub IsSuperPath : List ServiceType → List ℕ → List (List ℕ) → List ℕ → Type 0
+IsSuperPath types a [] b = IsTrue (has_type types a) × (a ≡ b)
+IsSuperPath types a (c ∷ cs) b = IsSuper types a c × IsSuperPath types c cs b
 
 -- a list of names leads from the one type to the other
 pub record Conforms (types : List ServiceType) (a b : List ℕ) : Type 0 where
   pub names : List (List ℕ)
-  pub leads : Leads types a names b
+  pub leads : IsSuperPath types a names b
 
 -- ---- ancestors
 

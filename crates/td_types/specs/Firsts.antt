@@ -8,12 +8,12 @@ use Rattle.std.specs.Str.{bytes_eq}
 use Rattle.td_types.specs.Adding.{Definition, earlier_of}
 use Rattle.td_types.specs.declared.redefining.Given.{Given}
 
-abbrev pub stated : Given → Definition
-stated g = record { type = g.type_name.now; property = g.property.now; own = g.own }
+abbrev pub definition_of : Given → Definition
+definition_of g = record { type = g.type_name.now; property = g.property.now; own = g.own }
 
 -- the definition that the map keeps for a name
 abbrev pub first_at : BTreeMap (Bor (List ℕ)) Given → List ℕ → Option Definition
-first_at firsts name = option_map stated (lookup (λ k. bytes_eq name k.now) firsts.entries)
+first_at firsts name = option_map definition_of (lookup (λ k. bytes_eq name k.now) firsts.entries)
 
 -- the map keeps the first of these definitions for each name
 abbrev pub AreFirsts : BTreeMap (Bor (List ℕ)) Given → List Definition → Type 0

@@ -10,17 +10,17 @@ use Rattle.td_types.specs.declared.reply.TypesReply.{TypesReply}
 use Rattle.td_types.specs.declared.reply.TypesReply.TheVariants as reply
 
 -- each number is above the one before it
-abbrev pub Rises : ℕ → List ℕ → Type 0
-Rises below [] = Unit {0}
-Rises below (n ∷ ns) = (below < n) × Rises n ns
+abbrev pub RisesAbove : ℕ → List ℕ → Type 0
+RisesAbove below [] = Unit {0}
+RisesAbove below (n ∷ ns) = (below < n) × RisesAbove n ns
 
 -- the types of other names, in order
 abbrev pub other_types : List ℕ → List ServiceType → List ServiceType
 other_types name types = filter (λ t. not (is_named name t)) types
 
 -- a type but for its mask
-abbrev pub unmasked : ServiceType → ServiceType
-unmasked t = record t { masked = false }
+abbrev pub without_mask : ServiceType → ServiceType
+without_mask t = record t { masked = false }
 
 -- what follows from the supertypes of a name is the same among both
 pub record IsSameOf (name : List ℕ) (before after : List ServiceType) : Type 0 where
@@ -48,7 +48,7 @@ pub record SetsMask (name : List ℕ) (masked : Bool) (before after : Repository
   pub valid : IsRepository after
   pub had : mask_of before.types name ≡ Some (not masked)
   pub has : mask_of after.types name ≡ Some masked
-  pub all : map unmasked after.types ≡ map unmasked before.types
+  pub all : map without_mask after.types ≡ map without_mask before.types
   pub types : (other : List ℕ) → (other ≡ name → ⊥) → type_named after.types other
       ≡ type_named before.types other
   pub supertypes : (other : List ℕ) → IsSameOf other before.types after.types
@@ -56,8 +56,8 @@ pub record SetsMask (name : List ℕ) (masked : Bool) (before after : Repository
   pub last : after.last ≡ before.last
 
 -- the new type's incarnation is told, and no type and no call before had one as great
-pub record IsNewest (before after : Repository) (told : TypesReply) : Type 0 where
-  pub told_is : told ≡ reply.Added after.last
+pub record IsNewest (before after : Repository) (content : TypesReply) : Type 0 where
+  pub content_is : content ≡ reply.Added after.last
   pub above_last : before.last < after.last
   pub above_all : AllByRecursion (λ t. t.incarnation < after.last) before.types
 

@@ -3,9 +3,9 @@ use Rattle.std.specs.Prelude.{◌≡◌, ℕ, ◌+◌, ◌<◌, ◌≤◌, Bool,
 use Rattle.td_types.specs.Reaching.{is_in, is_marked}
 
 -- what isn't marked yet
-abbrev pub unmarked : List Bool → ℕ
-unmarked [] = 0
-unmarked (mark ∷ marks) = cond mark 0 1 + unmarked marks
+abbrev pub count_unmarked : List Bool → ℕ
+count_unmarked [] = 0
+count_unmarked (mark ∷ marks) = cond mark 0 1 + count_unmarked marks
 
 -- what is queued is marked
 abbrev pub AreMarked : List Bool → List ℕ → Type 0
@@ -25,7 +25,7 @@ pub record Marks (places : List ℕ) (marks : List Bool) (queue : List ℕ) (mar
   pub all : (place : ℕ) → IsTrue (is_in place places) → IsTrue (is_marked marked place)
   pub only : (place : ℕ) → IsTrue (is_marked marked place)
       → IsTrue (is_marked marks place) ⊎ IsTrue (is_in place places)
-  pub longer : length queue + unmarked marks ≡ length queued + unmarked marked
+  pub longer : length queue + count_unmarked marks ≡ length queued + count_unmarked marked
   pub grows : length queue ≤ length queued
   pub front : (i : ℕ) → i < length queue → slice_index_or queued i 0 ≡ slice_index_or queue i 0
   pub are_marked : AreMarked marks queue → AreMarked marked queued

@@ -33,13 +33,13 @@ newcomers own (p ∷ ps) = if has_property own p.name then newcomers own ps else
     ∷ newcomers (p ∷ own) ps
 
 -- with the mode that all of these together demand
-abbrev pub strengthened : List PropStruct → PropStruct → PropStruct
-strengthened inherited p = record p { mode = joined_mode inherited p.name }
+abbrev pub with_stronger_mode : List PropStruct → PropStruct → PropStruct
+with_stronger_mode inherited p = record p { mode = joined_mode inherited p.name }
 
 -- Its own properties in order, and then, per supertype in order, each full property of it whose name isn't there
 -- yet: with the first supertype's value type, and the join of the modes that all supertypes give the name.
 abbrev pub with_inherited : (own inherited : List PropStruct) → List PropStruct
-with_inherited own inherited = own ++ map (strengthened inherited) (newcomers own inherited)
+with_inherited own inherited = own ++ map (with_stronger_mode inherited) (newcomers own inherited)
 
 -- The full properties of a type. The types are listed from the youngest on, so that a type's supertypes stand
 -- behind it.

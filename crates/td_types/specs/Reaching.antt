@@ -5,21 +5,21 @@ use Rattle.std.specs.Prelude.{◌≡◌, ℕ, zero, suc, nat_eq, ◌<◌, Bool, 
 use Rattle.std.specs.Prelude.{slice_index_or}
 use Rattle.std.specs.List.{list_any}
 use Rattle.std.specs.Str.{bytes_eq}
-use Rattle.td_types.specs.Repository.{Declared, is_among}
+use Rattle.td_types.specs.Repository.{InterfaceBases, is_among}
 use Rattle.td_types.specs.Interfaces.{leads_within}
 
 -- ---- declarations by their places
 
 -- the id that is declared at a place
-abbrev pub id_at : Declared → ℕ → List ℕ
+abbrev pub id_at : InterfaceBases → ℕ → List ℕ
 id_at declared place = (slice_index_or declared place ([], [])).0
 
 -- the bases that are declared there
-abbrev pub bases_at : Declared → ℕ → List (List ℕ)
+abbrev pub bases_at : InterfaceBases → ℕ → List (List ℕ)
 bases_at declared place = (slice_index_or declared place ([], [])).1
 
 -- whether one of these ids is declared at a place
-abbrev pub declares : Declared → List (List ℕ) → ℕ → Bool
+abbrev pub declares : InterfaceBases → List (List ℕ) → ℕ → Bool
 declares [] ids place = false
 declares (entry ∷ declared) ids zero = is_among entry.0 ids
 declares (entry ∷ declared) ids (suc place) = declares declared ids place
@@ -29,7 +29,7 @@ abbrev pub is_in : ℕ → List ℕ → Bool
 is_in place places = list_any (nat_eq place) places
 
 -- these are the places at which one of the ids is declared
-abbrev pub ArePlaces : Declared → List (List ℕ) → List ℕ → Type 0
+abbrev pub ArePlaces : InterfaceBases → List (List ℕ) → List ℕ → Type 0
 ArePlaces declared ids places = (place : ℕ) → is_in place places ≡ declares declared ids place
 
 -- the places behind one place
@@ -37,7 +37,7 @@ abbrev pub links_at : List (List ℕ) → ℕ → List ℕ
 links_at links place = slice_index_or links place []
 
 -- of each declaration, the places at which its bases are declared
-pub record AreLinks (declared : Declared) (links : List (List ℕ)) : Type 0 where
+pub record AreLinks (declared : InterfaceBases) (links : List (List ℕ)) : Type 0 where
   pub count : length links ≡ length declared
   pub each : (place : ℕ) → ArePlaces declared (bases_at declared place) (links_at links place)
 
@@ -63,21 +63,21 @@ pub record IsLeast (links : List (List ℕ)) (starts : List ℕ) (marks : List B
 -- ---- the table
 
 -- whether a marked declaration names this base
-abbrev pub named : Declared → List Bool → List ℕ → Bool
-named [] marks base = false
-named (entry ∷ declared) [] base = false
-named (entry ∷ declared) (mark ∷ marks) base = (mark && is_among base entry.1)
-    || named declared marks base
+abbrev pub names_base : InterfaceBases → List Bool → List ℕ → Bool
+names_base [] marks base = false
+names_base (entry ∷ declared) [] base = false
+names_base (entry ∷ declared) (mark ∷ marks) base = (mark && is_among base entry.1)
+    || names_base declared marks base
 
 -- by these marks an interface leads where it does
-pub record Reaches (declared : Declared) (id : List ℕ) (marks : List Bool) : Type 0 where
+pub record Reaches (declared : InterfaceBases) (id : List ℕ) (marks : List Bool) : Type 0 where
   pub count : length marks ≡ length declared
   pub leads : (last : List ℕ)
       → leads_within (length declared) declared id last
-      ≡ (bytes_eq id last || named declared marks last)
+      ≡ (bytes_eq id last || names_base declared marks last)
 
 -- the marks of each declaration's interface
-pub record AllReach (declared : Declared) (reached : List (List Bool)) : Type 0 where
+pub record AllReach (declared : InterfaceBases) (reached : List (List Bool)) : Type 0 where
   pub count : length reached ≡ length declared
   pub each : (place : ℕ) → place < length declared
       → Reaches declared (id_at declared place) (slice_index_or reached place [])

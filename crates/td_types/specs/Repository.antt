@@ -7,13 +7,13 @@ use Rattle.std.specs.Str.{bytes_eq}
 use Rattle.td_value.specs.declared.structures.IncarnationNumber.{IncarnationNumber}
 
 -- interfaces by their ids, each with its declared bases
-abbrev pub Declared : Type 0
-Declared = List (List ℕ × List (List ℕ))
+abbrev pub InterfaceBases : Type 0
+InterfaceBases = List (List ℕ × List (List ℕ))
 
 -- the types in the order of adding, the declared interfaces, and the last incarnation given, 0 before the first
 pub record Repository : Type 0 where
   pub types : List ServiceType
-  pub interfaces : Declared
+  pub interfaces : InterfaceBases
   pub last : ℕ
 
 -- ---- names
@@ -62,12 +62,13 @@ top [] = 0
 top (t ∷ older) = t.incarnation
 
 -- Listed from the youngest on, each type has a name and an incarnation of its own, and its supertypes are older.
-pub data Founded : List ServiceType → Type 0 where
-  none : Founded []
+pub data IsWellFounded : List ServiceType → Type 0 where
+  none : IsWellFounded []
   more : (t : ServiceType) (older : List ServiceType) → IsFalse (has_type older t.name)
-      → All (λ s. IsTrue (has_type older s)) t.supers → top older < t.incarnation → Founded older
-      → Founded (t ∷ older)
+      → All (λ s. IsTrue (has_type older s)) t.supers → top older < t.incarnation
+      → IsWellFounded older
+      → IsWellFounded (t ∷ older)
 
 pub record IsRepository (r : Repository) : Type 0 where
-  pub founded : Founded (reverse r.types)
+  pub founded : IsWellFounded (reverse r.types)
   pub counted : top (reverse r.types) ≤ r.last

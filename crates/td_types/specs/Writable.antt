@@ -7,7 +7,7 @@ use Rattle.td_cdr.specs.Sound.{◌&◌, text, sequence}
 use Rattle.td_value.specs.Structures.{incarnation_number, prop_struct, type_struct}
 use Rattle.td_value.specs.declared.structures.PropStruct.{PropStruct}
 use Rattle.td_types.specs.Adding.{most_types}
-use Rattle.td_types.specs.Calls.{Comes}
+use Rattle.td_types.specs.Calls.{RepositoryResult}
 use Rattle.td_types.specs.Conforming.{ancestors}
 use Rattle.td_types.specs.Descriptions.{description}
 use Rattle.td_types.specs.Properties.{full_properties}
@@ -71,7 +71,7 @@ IsWritableFault (fault.AlreadyMasked name) = text.format.admits name
 IsWritableFault (fault.NotMasked name) = text.format.admits name
 
 -- what a call comes to: a reply and a repository, or an exception
-abbrev pub StaysWritable : Comes → Type 0
+abbrev pub StaysWritable : RepositoryResult → Type 0
 StaysWritable (Ok p) = IsWritableReply p.0 × IsWritable p.1
 StaysWritable (Err (User f)) = IsWritableFault f
 StaysWritable (Err Full) = Unit {0}

@@ -2,8 +2,8 @@
 
 ghost use Rattle.std.specs.Prelude.{◌≡◌, ℕ, map, MatchResult};
 ghost use Rattle.td_types.specs.Added.{IsPrepared, IsMeasured};
-ghost use Rattle.td_types.specs.Calls.{Answers, add_type, add_fault};
-ghost use Rattle.td_types.specs.Judged.{Judges, AreKept, AreBases};
+ghost use Rattle.td_types.specs.Calls.{AnswersRepositoryCall, add_type, add_fault};
+ghost use Rattle.td_types.specs.Judged.{IsFirstFault, AreKept, AreBases};
 ghost use Rattle.td_types.specs.Judgements.{Foretells};
 ghost use Rattle.td_types.specs.Kept.{repository, AreEntries};
 ghost use Rattle.td_types.specs.Repository.{IsRepository};
@@ -11,7 +11,7 @@ ghost use Rattle.td_types.specs.Repository.{IsRepository};
 use crate::bases::bases_of;
 use crate::described::halves;
 use crate::entries::Entries;
-use crate::entry::{Entry, ServiceType};
+use crate::entry::{ServiceType, TypeEntry};
 use crate::fault::TypesFault;
 use crate::inheriting::{ancestors, with_inherited};
 use crate::interfaces::Interfaces;
@@ -38,7 +38,7 @@ impl Types {
     /// In this order: `IllegalServiceType`, `ServiceTypeExists`; by property `IllegalPropertyName`,
     /// `DuplicatePropertyName`; by supertype `IllegalServiceType`, `UnknownServiceType`,
     /// `DuplicateServiceTypeName`, `InterfaceTypeMismatch`; `ValueTypeRedefinition`; then `Full` where
-    /// a limit would be passed. `Memory` for want of memory. The repository is then unchanged.
+    /// a limit would be passed. `Memory` when out of memory. The repository is then unchanged.
     pub fn add(
         &mut self,
         name: Text,
@@ -46,7 +46,7 @@ impl Types {
         props: List<PropStruct>,
         supers: List<Text>,
     ) -> Result<TypesReply, TypesFault>
-        ensures answer { Answers (add_type self.old name if_name props supers)
+        ensures answer { AnswersRepositoryCall (add_type self.old name if_name props supers)
             self.old self.new result }
         ensures valid { IsRepository self.new }
     {
@@ -107,7 +107,7 @@ fn prepared(
     if_name: Text,
     props: List<PropStruct>,
     supers: List<Text>,
-) -> Result<Entry, TypesFault>
+) -> Result<TypeEntry, TypesFault>
     requires { AreEntries entries.now interfaces.now last }
     ensures { IsPrepared entries.now interfaces.now last name if_name props supers result }
 {
@@ -140,9 +140,9 @@ fn judged<'a>(
     if_name: &Text,
     props: &[PropStruct],
     supers: &[Text],
-) -> Result<List<&'a Entry>, TypesFault>
+) -> Result<List<&'a TypeEntry>, TypesFault>
     requires { AreKept entries.now }
-    ensures { Judges (add_fault (repository entries.now interfaces.now 0)
+    ensures { IsFirstFault (add_fault (repository entries.now interfaces.now 0)
         name.now if_name.now props.now supers.now)
         (λ bases. AreBases entries.now supers.now (map (λ b. b.now) bases)) result }
 {
@@ -163,7 +163,7 @@ fn measured(
     supers: List<Text>,
     full: List<PropStruct>,
     above: List<Text>,
-) -> Result<Entry, TypesFault>
+) -> Result<TypeEntry, TypesFault>
     ensures { IsMeasured incarnation name if_name props supers full above result }
 {
     let described = TypeStruct {
@@ -182,7 +182,7 @@ fn measured(
         super_types: ancestors,
         ..
     } = described;
-    Ok(Entry {
+    Ok(TypeEntry {
         service_type: ServiceType {
             name,
             if_name,

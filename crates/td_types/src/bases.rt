@@ -2,15 +2,15 @@
 
 ghost use Rattle.std.specs.Prelude.{◌≡◌, ℕ, [], map, IfOk};
 ghost use Rattle.td_types.specs.Adding.{supers_fault};
-ghost use Rattle.td_types.specs.Judged.{Judges, AreBases};
+ghost use Rattle.td_types.specs.Judged.{IsFirstFault, AreBases};
 ghost use Rattle.td_types.specs.Kept.{repository};
 ghost use Rattle.td_types.specs.declared.fault.RepoFault.TheVariants as fault;
 
 use crate::entries::Entries;
-use crate::entry::Entry;
+use crate::entry::TypeEntry;
 use crate::fault::{RepoFault, TypesFault};
 use crate::interfaces::Interfaces;
-use crate::sought::sought;
+use crate::sought::find_entry;
 use std::alloc::Global;
 use td_cdr::{List, Memory, Text, Twin, copy_four, nothing_seen, see};
 
@@ -23,15 +23,15 @@ pub(crate) fn bases_of<'a>(
     name: &Text,
     if_name: &Text,
     supers: &[Text],
-) -> Result<List<&'a Entry>, TypesFault>
-    ensures { Judges (supers_fault (repository entries.now interfaces.now 0)
+) -> Result<List<&'a TypeEntry>, TypesFault>
+    ensures { IsFirstFault (supers_fault (repository entries.now interfaces.now 0)
         name.now if_name.now [] supers.now)
         (λ bases. AreBases entries.now supers.now (map (λ b. b.now) bases)) result }
 {
     let mut bases = List::new(alloc);
     let mut seen = nothing_seen(alloc);
     for base_name in supers {
-        let base = sought(alloc, entries, base_name)?;
+        let base = find_entry(alloc, entries, base_name)?;
         if !see(&mut seen, base_name.as_slice())? {
             return Err(TypesFault::User(RepoFault::DuplicateServiceTypeName(base_name.copy(
                 alloc,
@@ -49,7 +49,7 @@ pub(crate) fn bases_of<'a>(
 fn mismatch(
     alloc: Global,
     base_name: &Text,
-    base: &Entry,
+    base: &TypeEntry,
     name: &Text,
     if_name: &Text,
 ) -> Result<RepoFault, Memory>

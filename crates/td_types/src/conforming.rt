@@ -3,12 +3,12 @@
 ghost use Rattle.std.specs.Prelude.{◌≡◌, ◌↔◌, IsTrue, IfOk, false, [], map, filter};
 ghost use Rattle.td_types.specs.Conforming.{conforms, Conforms, subtypes};
 ghost use Rattle.td_types.specs.Judged.{AreKept};
-ghost use Rattle.td_types.specs.Kept.{kept, is_below};
-ghost use Rattle.td_types.specs.Laws.{Rises};
+ghost use Rattle.td_types.specs.Kept.{entry_type, is_below};
+ghost use Rattle.td_types.specs.Laws.{RisesAbove};
 ghost use Rattle.td_types.specs.Repository.{has_type};
 
 use crate::entries::Entries;
-use crate::entry::Entry;
+use crate::entry::TypeEntry;
 use crate::places::is_among;
 use crate::types::Types;
 use std::alloc::Global;
@@ -29,10 +29,10 @@ impl Types {
     ///
     /// # Errors
     ///
-    /// `Memory` for want of memory alone.
+    /// `Memory` only when out of memory.
     pub fn subtypes(&self, base: &Text) -> Result<List<u64>, Memory>
         ensures answer { IfOk result (λ numbers. numbers ≡ subtypes self.now.types base.now) }
-        ensures rising { IfOk result (Rises 0) }
+        ensures rising { IfOk result (RisesAbove 0) }
         ensures unknown { has_type self.now.types base.now ≡ false
             → IfOk result (λ numbers. numbers ≡ []) }
     {
@@ -43,7 +43,7 @@ impl Types {
 /// Whether the type of the first name conforms to that of the second.
 fn entry_conforms(entries: &Entries, sub: &[u8], base: &[u8]) -> bool
     requires { AreKept entries.now }
-    ensures { result ≡ conforms (map kept entries.now) sub.now base.now }
+    ensures { result ≡ conforms (map entry_type entries.now) sub.now base.now }
 {
     match entries.get(sub) {
         None => false,
@@ -55,8 +55,8 @@ fn entry_conforms(entries: &Entries, sub: &[u8], base: &[u8]) -> bool
 ///
 /// # Errors
 ///
-/// `Memory` for want of memory alone.
-fn below(alloc: Global, entries: &[Entry], base: &[u8]) -> Result<List<u64>, Memory>
+/// `Memory` only when out of memory.
+fn below(alloc: Global, entries: &[TypeEntry], base: &[u8]) -> Result<List<u64>, Memory>
     ensures { IfOk result (λ numbers. numbers ≡ map
         (λ e. e.service_type.incarnation) (filter (is_below base.now) entries.now)) }
 {
@@ -70,7 +70,7 @@ fn below(alloc: Global, entries: &[Entry], base: &[u8]) -> Result<List<u64>, Mem
 }
 
 /// Whether the entry's type conforms to the type of a name.
-fn is_below(entry: &Entry, base: &[u8]) -> bool
+fn is_below(entry: &TypeEntry, base: &[u8]) -> bool
     ensures { result ≡ is_below base.now entry.now }
 {
     entry.service_type.name.as_slice() == base || is_among(base, entry.ancestors.as_slice())

@@ -2,10 +2,10 @@
 
 ghost use Rattle.std.specs.Prelude.{◌≡◌, IfOk};
 ghost use Rattle.td_types.specs.Descriptions.{description};
-ghost use Rattle.td_types.specs.Kept.{kept, kept_description};
+ghost use Rattle.td_types.specs.Kept.{entry_type, kept_description};
 ghost use Rattle.td_types.specs.Repository.{halves};
 
-use crate::entry::Entry;
+use crate::entry::TypeEntry;
 use std::alloc::Global;
 use td_cdr::{Memory, copy_three};
 use td_value::{IncarnationNumber, TypeStruct};
@@ -24,9 +24,9 @@ pub fn halves(number: u64) -> IncarnationNumber
 ///
 /// # Errors
 ///
-/// `Memory` for want of memory alone.
-pub(crate) fn description(alloc: Global, entry: &Entry) -> Result<TypeStruct, Memory>
-    ensures { IfOk result (λ d. d ≡ description (kept entry.now)) }
+/// `Memory` only when out of memory.
+pub(crate) fn description(alloc: Global, entry: &TypeEntry) -> Result<TypeStruct, Memory>
+    ensures { IfOk result (λ d. d ≡ description (entry_type entry.now)) }
 {
     let service_type = &entry.service_type;
     let (if_name, (props, super_types)) = copy_three(
@@ -48,8 +48,8 @@ pub(crate) fn description(alloc: Global, entry: &Entry) -> Result<TypeStruct, Me
 ///
 /// # Errors
 ///
-/// `Memory` for want of memory alone.
-pub(crate) fn kept_description(alloc: Global, entry: &Entry) -> Result<TypeStruct, Memory>
+/// `Memory` only when out of memory.
+pub(crate) fn kept_description(alloc: Global, entry: &TypeEntry) -> Result<TypeStruct, Memory>
     ensures { IfOk result (λ d. d ≡ kept_description entry.now) }
 {
     let service_type = &entry.service_type;

@@ -1,13 +1,13 @@
 //! Describing a type.
 
 ghost use Rattle.std.specs.Prelude.{◌≡◌};
-ghost use Rattle.td_types.specs.Calls.{Answers, describe_type, fully_describe_type};
+ghost use Rattle.td_types.specs.Calls.{AnswersRepositoryCall, describe_type, fully_describe_type};
 ghost use Rattle.td_types.specs.Repository.{IsRepository};
 
 use crate::described::{description, kept_description};
 use crate::fault::TypesFault;
 use crate::reply::TypesReply;
-use crate::sought::sought;
+use crate::sought::find_entry;
 use crate::types::Types;
 use td_cdr::Text;
 
@@ -16,11 +16,12 @@ impl Types {
     ///
     /// # Errors
     ///
-    /// `IllegalServiceType`, `UnknownServiceType`, or `Memory` for want of memory.
+    /// `IllegalServiceType`, `UnknownServiceType`, or `Memory` when out of memory.
     pub fn describe(&self, name: &Text) -> Result<TypesReply, TypesFault>
-        ensures answer { Answers (describe_type self.now name.now) self.now self.now result }
+        ensures answer { AnswersRepositoryCall (describe_type self.now name.now) self.now self.now
+            result }
     {
-        let entry = sought(self.alloc, &self.entries, name)?;
+        let entry = find_entry(self.alloc, &self.entries, name)?;
         Ok(TypesReply::Described(description(self.alloc, entry)?))
     }
 
@@ -30,9 +31,10 @@ impl Types {
     ///
     /// As `describe`.
     pub fn fully_describe(&self, name: &Text) -> Result<TypesReply, TypesFault>
-        ensures answer { Answers (fully_describe_type self.now name.now) self.now self.now result }
+        ensures answer { AnswersRepositoryCall (fully_describe_type self.now name.now) self.now
+            self.now result }
     {
-        let entry = sought(self.alloc, &self.entries, name)?;
+        let entry = find_entry(self.alloc, &self.entries, name)?;
         Ok(TypesReply::Described(kept_description(self.alloc, entry)?))
     }
 }

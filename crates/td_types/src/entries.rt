@@ -1,12 +1,12 @@
 //! The entries of all types, each found by its name.
 
 ghost use Rattle.std.specs.Prelude.{◌≡◌, false, [], ◌∷◌, ◌++◌, length, map, OnOk, OnErr, option_copied};
-ghost use Rattle.td_types.specs.Kept.{kept};
+ghost use Rattle.td_types.specs.Kept.{entry_type};
 ghost use Rattle.td_types.specs.Removing.{without_entry, with_mask};
 ghost use Rattle.td_types.specs.Repository.{has_type};
 ghost use Rattle.td_types.specs.Sought.{entry_named};
 
-use crate::entry::Entry;
+use crate::entry::TypeEntry;
 use indexmap::IndexMap;
 use std::alloc::Global;
 use std::marker::Model;
@@ -15,7 +15,7 @@ use td_cdr::{Memory, Text, Twin};
 /// The entries in the order of adding.
 #[derive(Drop)]
 pub(crate) struct Entries {
-    named: IndexMap<Vec<u8>, Entry>,
+    named: IndexMap<Vec<u8>, TypeEntry>,
 }
 
 impl Model for Entries {
@@ -23,8 +23,8 @@ impl Model for Entries {
     ghost use Rattle.std.specs.Coded.{codes};
     ghost use Rattle.indexmap.specs.IndexMap.{values};
     ghost use Rattle.td_types.specs.NamedEntries.{AreNamed};
-    ghost use Rattle.td_types.specs.declared.entry.Entry.{Entry as Kept};
-    ghost use Rattle.td_codes.specs.contracts.code.TypeCode as code;
+    ghost use Rattle.td_types.specs.declared.entry.TypeEntry.{TypeEntry as Kept};
+    ghost use Rattle.td_typecode.specs.contracts.code.TypeCode as code;
 
     ghost Value = { List Kept };
 
@@ -53,14 +53,14 @@ impl Entries {
     }
 
     /// The entries in order.
-    pub(crate) fn as_slice(&self) -> &[Entry]
+    pub(crate) fn as_slice(&self) -> &[TypeEntry]
         ensures { result.now ≡ self.now }
     {
         self.named.values().as_slice()
     }
 
     /// The entry of the type of a name.
-    pub(crate) fn get(&self, name: &[u8]) -> Option<&Entry>
+    pub(crate) fn get(&self, name: &[u8]) -> Option<&TypeEntry>
         ensures { option_copied result ≡ entry_named self.now name.now }
     {
         self.named.get(name)
@@ -70,9 +70,9 @@ impl Entries {
     ///
     /// # Errors
     ///
-    /// `Memory` for want of memory alone; nothing is then added.
-    pub(crate) fn add(&mut self, alloc: Global, entry: Entry) -> Result<(), Memory>
-        requires { has_type (map kept self.old) entry.service_type.name ≡ false }
+    /// `Memory` only when out of memory; nothing is then added.
+    pub(crate) fn add(&mut self, alloc: Global, entry: TypeEntry) -> Result<(), Memory>
+        requires { has_type (map entry_type self.old) entry.service_type.name ≡ false }
         ensures added { OnOk result (self.new ≡ self.old ++ entry ∷ []) }
         ensures kept { OnErr result (self.new ≡ self.old) }
     {

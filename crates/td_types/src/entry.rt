@@ -29,7 +29,7 @@ impl Drop for ServiceType {
 
 /// A type with what follows from its supertypes.
 #[derive(Drop)]
-pub(crate) struct Entry {
+pub(crate) struct TypeEntry {
     pub(crate) service_type: ServiceType,
     /// All its supertypes, in the order in which a depth-first walk meets them.
     pub(crate) ancestors: List<Text>,

@@ -53,7 +53,7 @@ pub enum TypesFault {
     User(RepoFault),
     /// A limit on types would be passed.
     Full,
-    /// Want of memory.
+    /// Out of memory.
     Memory,
 }
 

@@ -4,14 +4,14 @@ ghost use Rattle.std.specs.Prelude.{◌≡◌, ◌<◌, ◌≤◌, ℕ, List as 
 ghost use Rattle.std.specs.Prelude.{MatchResult};
 ghost use Rattle.td_types.specs.Adding.{most_properties};
 ghost use Rattle.td_types.specs.Conforming.{once, add_once};
-ghost use Rattle.td_types.specs.Inheriting.{extended, IsMore, IsMoreBy};
-ghost use Rattle.td_types.specs.Judged.{inherited, names_above};
+ghost use Rattle.td_types.specs.Inheriting.{with_further, IsMore, IsMoreBy};
+ghost use Rattle.td_types.specs.Judged.{inherited_properties, names_above};
 ghost use Rattle.td_types.specs.Modes.{join};
-ghost use Rattle.td_types.specs.Properties.{has_property, joined_mode, with_inherited, strengthened};
+ghost use Rattle.td_types.specs.Properties.{has_property, joined_mode, with_inherited, with_stronger_mode};
 ghost use Rattle.td_cdr.specs.Seen.{HaveSeen};
 ghost use Rattle.td_value.specs.declared.structures.PropStruct.{PropStruct as a_property};
 
-use crate::entry::Entry;
+use crate::entry::TypeEntry;
 use crate::fault::TypesFault;
 use crate::limits::MOST_PROPERTIES;
 use crate::modes::join;
@@ -23,13 +23,14 @@ use td_value::{PropStruct, PropertyMode};
 ///
 /// # Errors
 ///
-/// `Full` where there are more than a type has at most, or `Memory` for want of memory.
+/// `Full` where there are more than a type has at most, or `Memory` when out of memory.
 pub(crate) fn with_inherited(
     alloc: Global,
     props: &List<PropStruct>,
-    bases: &[&Entry],
+    bases: &[&TypeEntry],
 ) -> Result<List<PropStruct>, TypesFault>
-    ensures { IsMore (with_inherited props.now (inherited (map (λ b. b.now) bases.now))) result }
+    ensures { IsMore (with_inherited props.now (inherited_properties (map (λ b. b.now) bases.now)))
+        result }
 {
     if props.len() > MOST_PROPERTIES {
         return Err(TypesFault::Full);
@@ -45,11 +46,11 @@ pub(crate) fn with_inherited(
 fn extend(
     alloc: Global,
     full: &mut List<PropStruct>,
-    bases: &[&Entry],
-    base: &Entry,
+    bases: &[&TypeEntry],
+    base: &TypeEntry,
 ) -> Result<(), TypesFault>
     requires { length full.old ≤ most_properties }
-    ensures { (later : Row a_property) → IsMoreBy (inherited (map
+    ensures { (later : Row a_property) → IsMoreBy (inherited_properties (map
         (λ b. b.now) bases.now)) full.old full.new (base.now.full ++ later) later result }
 {
     for property in base.full.as_slice() {
@@ -62,11 +63,11 @@ fn extend(
 fn extend_by_one(
     alloc: Global,
     full: &mut List<PropStruct>,
-    bases: &[&Entry],
+    bases: &[&TypeEntry],
     property: &PropStruct,
 ) -> Result<(), TypesFault>
     requires { length full.old ≤ most_properties }
-    ensures { (later : Row a_property) → IsMoreBy (inherited (map
+    ensures { (later : Row a_property) → IsMoreBy (inherited_properties (map
         (λ b. b.now) bases.now)) full.old full.new (property.now ∷ later) later result }
 {
     if has_property(full.as_slice(), property.name.as_slice()) {
@@ -75,18 +76,18 @@ fn extend_by_one(
     if full.len() >= MOST_PROPERTIES {
         return Err(TypesFault::Full);
     }
-    full.push(strengthened(alloc, bases, property)?)?;
+    full.push(with_stronger_mode(alloc, bases, property)?)?;
     Ok(())
 }
 
 /// The property with the mode that all supertypes together demand.
-fn strengthened(
+fn with_stronger_mode(
     alloc: Global,
-    bases: &[&Entry],
+    bases: &[&TypeEntry],
     property: &PropStruct,
 ) -> Result<PropStruct, Memory>
     ensures { IfOk result (λ p. p
-        ≡ strengthened (inherited (map (λ b. b.now) bases.now)) property.now) }
+        ≡ with_stronger_mode (inherited_properties (map (λ b. b.now) bases.now)) property.now) }
 {
     Ok(PropStruct {
         name: property.name.copy(alloc)?,
@@ -108,8 +109,8 @@ fn has_property(props: &[PropStruct], name: &[u8]) -> bool
 }
 
 /// The join of the modes that the supertypes give a name.
-fn joined_mode(bases: &[&Entry], name: &[u8]) -> PropertyMode
-    ensures { result ≡ joined_mode (inherited (map (λ b. b.now) bases.now)) name.now }
+fn joined_mode(bases: &[&TypeEntry], name: &[u8]) -> PropertyMode
+    ensures { result ≡ joined_mode (inherited_properties (map (λ b. b.now) bases.now)) name.now }
 {
     let mut mode = PropertyMode::Normal;
     for base in bases {
@@ -135,8 +136,8 @@ fn mode_in(props: &[PropStruct], name: &[u8]) -> PropertyMode
 ///
 /// # Errors
 ///
-/// `Memory` for want of memory alone.
-pub(crate) fn ancestors(alloc: Global, bases: &[&Entry]) -> Result<List<Text>, Memory>
+/// `Memory` only when out of memory.
+pub(crate) fn ancestors(alloc: Global, bases: &[&TypeEntry]) -> Result<List<Text>, Memory>
     ensures { IfOk result (λ names. names ≡ once [] (names_above (map (λ b. b.now) bases.now))) }
 {
     let mut met = List::new(alloc);

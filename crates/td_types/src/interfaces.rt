@@ -4,7 +4,7 @@
 ghost use Rattle.std.specs.Prelude.{◌≡◌, ◌<◌, ◌||◌, ℕ, false, [], ◌∷◌, length, IfOk, MatchOption};
 ghost use Rattle.std.specs.Str.{bytes_eq};
 ghost use Rattle.td_types.specs.Interfaces.{interface_conforms, leads_within};
-ghost use Rattle.td_types.specs.Reaching.{AreLinks, Reaches, AllReach, named, id_at, declares};
+ghost use Rattle.td_types.specs.Reaching.{AreLinks, Reaches, AllReach, names_base, id_at, declares};
 
 use crate::places::{is_among, links_of, places_of};
 use crate::reaching::reach;
@@ -21,10 +21,10 @@ pub(crate) struct Interfaces {
 }
 
 impl Model for Interfaces {
-    ghost use Rattle.td_types.specs.Repository.{Declared};
+    ghost use Rattle.td_types.specs.Repository.{InterfaceBases};
     ghost use Rattle.td_types.specs.Reaching.{AllReach};
 
-    ghost Value = { Declared };
+    ghost Value = { InterfaceBases };
 
     ghost view = { λ i. i.declared };
 
@@ -36,7 +36,7 @@ impl Interfaces {
     ///
     /// # Errors
     ///
-    /// `Memory` for want of memory alone.
+    /// `Memory` only when out of memory.
     pub(crate) fn new(
         alloc: Global,
         declared: List<(Text, List<Text>)>,
@@ -113,7 +113,7 @@ fn place_of(declared: &[(Text, List<Text>)], id: &[u8]) -> Option<usize>
 /// Whether one of the marked declarations names this base.
 fn is_named(declared: &[(Text, List<Text>)], marks: &[bool], base: &[u8]) -> bool
     requires { length marks.now ≡ length declared.now }
-    ensures { result ≡ named declared.now marks.now base.now }
+    ensures { result ≡ names_base declared.now marks.now base.now }
 {
     for (place, entry) in declared.iter().enumerate() {
         if marks[place] && is_among(base, entry.1.as_slice()) {

@@ -1,7 +1,7 @@
 //! Whether a call on one type is accepted, without memory.
 
 ghost use Rattle.std.specs.Prelude.{◌≡◌, ℕ, IsOk, IfOk, MatchResult};
-ghost use Rattle.td_types.specs.Calls.{Comes, mask_type, unmask_type, remove_type};
+ghost use Rattle.td_types.specs.Calls.{RepositoryResult, mask_type, unmask_type, remove_type};
 ghost use Rattle.td_types.specs.Judgements.{IsJudged, IsRefusal};
 ghost use Rattle.td_types.specs.declared.fault.RepoFault.TheVariants as fault;
 
@@ -79,7 +79,8 @@ pub(crate) fn accepted(
     judgement: Judgement<'_>,
     name: &Text,
 ) -> Result<(), TypesFault>
-    ensures { (comes : Comes) → IsJudged comes name.now judgement.entry → MatchResult result
+    ensures { (comes : RepositoryResult) → IsJudged comes name.now judgement.entry
+        → MatchResult result
         (λ _. IsOk comes) (IsRefusal comes) }
 {
     let fault = match judgement {

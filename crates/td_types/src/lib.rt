@@ -31,7 +31,7 @@ pub use entry::ServiceType;
 pub use fault::{RepoFault, TypesFault};
 pub use judgement::Judgement;
 pub use laws::{
-    calls_come_to_no_want_of_memory, incarnations_are_new, interfaces_conform, listing_rises,
+    calls_never_run_out_of_memory, incarnations_are_new, interfaces_conform, listing_rises,
     masks_change_nothing_else, removing_leaves_the_others, supertypes_modes_hold,
     the_oldest_sub_type_is_named, types_conform, types_stay_writable,
 };

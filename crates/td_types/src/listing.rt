@@ -1,11 +1,11 @@
 //! Listing types, and the last incarnation.
 
 ghost use Rattle.std.specs.Prelude.{◌≡◌, IfOk, map, filter};
-ghost use Rattle.td_types.specs.Calls.{Answers, list_types, is_listed};
-ghost use Rattle.td_types.specs.Kept.{kept};
+ghost use Rattle.td_types.specs.Calls.{AnswersRepositoryCall, list_types, is_listed};
+ghost use Rattle.td_types.specs.Kept.{entry_type};
 ghost use Rattle.td_types.specs.Repository.{IsRepository};
 
-use crate::entry::Entry;
+use crate::entry::TypeEntry;
 use crate::fault::TypesFault;
 use crate::reply::TypesReply;
 use crate::types::Types;
@@ -18,10 +18,11 @@ impl Types {
     ///
     /// # Errors
     ///
-    /// `Memory` for want of memory alone.
+    /// `Memory` only when out of memory.
     #[tactic(auto, unfolding(crate::specs::Calls::list_types))]
     pub fn list(&self, since: Option<u64>) -> Result<TypesReply, TypesFault>
-        ensures answer { Answers (list_types self.now since) self.now self.now result }
+        ensures answer { AnswersRepositoryCall (list_types self.now since) self.now self.now
+            result }
     {
         let names = listed(self.alloc, self.entries.as_slice(), since)?;
         Ok(TypesReply::Names(names))
@@ -41,10 +42,10 @@ impl Types {
 ///
 /// # Errors
 ///
-/// `Memory` for want of memory alone.
-fn listed(alloc: Global, entries: &[Entry], since: Option<u64>) -> Result<List<Text>, Memory>
+/// `Memory` only when out of memory.
+fn listed(alloc: Global, entries: &[TypeEntry], since: Option<u64>) -> Result<List<Text>, Memory>
     ensures { IfOk result (λ names. names
-        ≡ map (λ t. t.name) (filter (is_listed since) (map kept entries.now))) }
+        ≡ map (λ t. t.name) (filter (is_listed since) (map entry_type entries.now))) }
 {
     let mut names = List::new(alloc);
     for entry in entries {
@@ -56,8 +57,8 @@ fn listed(alloc: Global, entries: &[Entry], since: Option<u64>) -> Result<List<T
 }
 
 /// Whether the type is of this incarnation or a later one.
-fn is_listed(since: Option<u64>, entry: &Entry) -> bool
-    ensures { result ≡ is_listed since (kept entry.now) }
+fn is_listed(since: Option<u64>, entry: &TypeEntry) -> bool
+    ensures { result ≡ is_listed since (entry_type entry.now) }
 {
     match since {
         None => true,

@@ -2,7 +2,7 @@
 
 ghost use Rattle.std.specs.Prelude.{ℕ, []};
 ghost use Rattle.td_types.specs.Adding.{name_fault, property_fault};
-ghost use Rattle.td_types.specs.Judged.{Judges};
+ghost use Rattle.td_types.specs.Judged.{IsFirstFault};
 ghost use Rattle.td_types.specs.Kept.{repository};
 
 use crate::entries::Entries;
@@ -14,7 +14,8 @@ use td_value::PropStruct;
 /// Refuses a type's name that is none, or that a type has.
 #[tactic(auto, using(crate::proofs::Named::no_type, crate::proofs::Named::some_type))]
 pub(crate) fn check_name(alloc: Global, entries: &Entries, name: &Text) -> Result<(), TypesFault>
-    ensures { Judges (name_fault (repository entries.now [] 0) name.now) (λ _. Unit {0}) result }
+    ensures { IsFirstFault (name_fault (repository entries.now [] 0) name.now)
+        (λ _. Unit {0}) result }
 {
     if !is_word_name(name.as_slice()) {
         return Err(TypesFault::User(RepoFault::IllegalServiceType(name.copy(alloc)?)));
@@ -27,7 +28,7 @@ pub(crate) fn check_name(alloc: Global, entries: &Entries, name: &Text) -> Resul
 
 /// Refuses the first property whose name is none, or the name of one before it.
 pub(crate) fn check_properties(alloc: Global, props: &[PropStruct]) -> Result<(), TypesFault>
-    ensures { Judges (property_fault [] props.now) (λ _. Unit {0}) result }
+    ensures { IsFirstFault (property_fault [] props.now) (λ _. Unit {0}) result }
 {
     let mut seen = nothing_seen(alloc);
     for prop in props {

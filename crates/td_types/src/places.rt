@@ -11,7 +11,7 @@ use td_cdr::{List, Memory, Text};
 ///
 /// # Errors
 ///
-/// `Memory` for want of memory alone.
+/// `Memory` only when out of memory.
 pub(crate) fn links_of(
     alloc: Global,
     declared: &[(Text, List<Text>)],
@@ -30,7 +30,7 @@ pub(crate) fn links_of(
 ///
 /// # Errors
 ///
-/// `Memory` for want of memory alone.
+/// `Memory` only when out of memory.
 pub(crate) fn places_of(
     alloc: Global,
     declared: &[(Text, List<Text>)],

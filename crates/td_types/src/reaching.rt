@@ -11,7 +11,7 @@ use td_cdr::{List, Memory};
 ///
 /// # Errors
 ///
-/// `Memory` for want of memory alone.
+/// `Memory` only when out of memory.
 pub(crate) fn reach(
     alloc: Global,
     links: &Vec<List<usize>>,

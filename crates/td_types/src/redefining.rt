@@ -5,12 +5,12 @@ ghost use Rattle.std.specs.Prelude.{IfOk, OnOk};
 ghost use Rattle.std.specs.Option.{option_map, option_or};
 ghost use Rattle.std.specs.Str.{bytes_eq};
 ghost use Rattle.td_types.specs.Adding.{Definition, definitions, conflict, earlier_of, redefinition, agree};
-ghost use Rattle.td_types.specs.Firsts.{stated, first_at, AreFirsts};
-ghost use Rattle.td_types.specs.Judged.{Judges, inherited_from};
+ghost use Rattle.td_types.specs.Firsts.{definition_of, first_at, AreFirsts};
+ghost use Rattle.td_types.specs.Judged.{IsFirstFault, inherited_from};
 ghost use Rattle.td_types.specs.Modes.{is_at_least};
 ghost use Rattle.td_types.specs.declared.fault.RepoFault.TheVariants as fault;
 
-use crate::entry::Entry;
+use crate::entry::TypeEntry;
 use crate::fault::{RepoFault, TypesFault};
 use crate::modes::is_at_least;
 use std::alloc::Global;
@@ -33,9 +33,9 @@ pub(crate) fn check_redefinitions(
     alloc: Global,
     name: &Text,
     props: &[PropStruct],
-    bases: &[&Entry],
+    bases: &[&TypeEntry],
 ) -> Result<(), TypesFault>
-    ensures { Judges (redefinition (definitions name.now true props.now) (inherited_from (map
+    ensures { IsFirstFault (redefinition (definitions name.now true props.now) (inherited_from (map
         (λ b. b.now) bases.now))) (λ _. Unit {0}) result }
 {
     let mut firsts = own_definitions(alloc, name, props)?;
@@ -69,10 +69,11 @@ fn own_definitions<'a>(
 fn check_base<'a>(
     alloc: Global,
     firsts: &mut BTreeMap<&'a [u8], Given<'a>>,
-    base: &'a Entry,
+    base: &'a TypeEntry,
 ) -> Result<(), TypesFault>
     ensures { (earlier : List Definition) → AreFirsts firsts.old earlier →
-        Judges (redefinition earlier (definitions base.now.service_type.name false base.now.full))
+        IsFirstFault
+        (redefinition earlier (definitions base.now.service_type.name false base.now.full))
         (λ _. AreFirsts firsts.new
         (earlier ++ definitions base.now.service_type.name false base.now.full)) result }
 {
@@ -94,8 +95,9 @@ fn check_definition<'a>(
     given: Given<'a>,
 ) -> Result<(), TypesFault>
     ensures { (earlier : List Definition) → AreFirsts firsts.old earlier →
-        Judges (conflict (earlier_of earlier given.entry.property.now.name) (stated given.entry))
-        (λ _. AreFirsts firsts.new (earlier ++ stated given.entry ∷ [])) result }
+        IsFirstFault (conflict (earlier_of earlier given.entry.property.now.name)
+        (definition_of given.entry))
+        (λ _. AreFirsts firsts.new (earlier ++ definition_of given.entry ∷ [])) result }
 {
     match first(firsts, given)? {
         None => Ok(()),
@@ -118,7 +120,8 @@ fn boxed_copies(
 
 /// Refuses a definition that doesn't agree with the first of its name.
 fn check_agreement(alloc: Global, earlier: Given<'_>, given: Given<'_>) -> Result<(), TypesFault>
-    ensures { Judges (conflict (Some (stated earlier.entry)) (stated given.entry))
+    ensures { IsFirstFault (conflict (Some (definition_of earlier.entry))
+        (definition_of given.entry))
         (λ _. Unit {0}) result }
 {
     if agree(alloc, earlier, given.property)? {
@@ -138,9 +141,9 @@ fn check_agreement(alloc: Global, earlier: Given<'_>, given: Given<'_>) -> Resul
 ///
 /// # Errors
 ///
-/// `Memory` for want of memory alone.
+/// `Memory` only when out of memory.
 fn agree(alloc: Global, earlier: Given<'_>, property: &PropStruct) -> Result<bool, Memory>
-    ensures { IfOk result (λ yes. yes ≡ agree (stated earlier.entry) property.now) }
+    ensures { IfOk result (λ yes. yes ≡ agree (definition_of earlier.entry) property.now) }
 {
     let same = same_type(alloc, &earlier.property.value_type, &property.value_type)?;
     Ok(same && (!earlier.own || is_at_least(earlier.property.mode, property.mode)))
@@ -150,16 +153,16 @@ fn agree(alloc: Global, earlier: Given<'_>, property: &PropStruct) -> Result<boo
 ///
 /// # Errors
 ///
-/// `Memory` for want of memory alone.
+/// `Memory` only when out of memory.
 fn first<'a>(
     firsts: &mut BTreeMap<&'a [u8], Given<'a>>,
     given: Given<'a>,
 ) -> Result<Option<Given<'a>>, Memory>
-    ensures earlier { IfOk result (λ e. option_map stated e
+    ensures earlier { IfOk result (λ e. option_map definition_of e
         ≡ first_at firsts.old given.entry.property.now.name) }
     ensures kept { OnOk result ((name : List ℕ) → first_at firsts.new name
         ≡ option_or (first_at firsts.old name) (cond (bytes_eq given.entry.property.now.name name)
-        (Some (stated given.entry)) None)) }
+        (Some (definition_of given.entry)) None)) }
 {
     let name = given.property.name.as_slice();
     match firsts.get(name) {

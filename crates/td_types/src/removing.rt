@@ -5,7 +5,7 @@ ghost use Rattle.td_types.specs.Calls.{AnswersFreely, remove_type, mask_type, un
 ghost use Rattle.td_types.specs.Removing.{sub_entry};
 ghost use Rattle.td_types.specs.Repository.{IsRepository};
 
-use crate::entry::Entry;
+use crate::entry::TypeEntry;
 use crate::fault::TypesFault;
 use crate::judgement::accepted;
 use crate::places::is_among;
@@ -59,7 +59,7 @@ impl Types {
 }
 
 /// The first other entry that has this name among its ancestors.
-pub(crate) fn sub_entry<'a>(entries: &'a [Entry], name: &[u8]) -> Option<&'a Entry>
+pub(crate) fn sub_entry<'a>(entries: &'a [TypeEntry], name: &[u8]) -> Option<&'a TypeEntry>
     ensures { option_copied result ≡ sub_entry entries.now name.now }
 {
     for entry in entries {

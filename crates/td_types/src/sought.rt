@@ -1,22 +1,22 @@
 //! An entry looked for by its name, as the calls on one type look for it.
 
 ghost use Rattle.std.specs.Prelude.{◌≡◌, Ok, MatchResult};
-ghost use Rattle.td_types.specs.Sought.{sought, IsRefused};
+ghost use Rattle.td_types.specs.Sought.{find_entry, IsRefusedCall};
 
 use crate::entries::Entries;
-use crate::entry::Entry;
+use crate::entry::TypeEntry;
 use crate::fault::{RepoFault, TypesFault};
 use std::alloc::Global;
 use td_cdr::{Text, Twin, is_word_name};
 
 /// The entry of that name, or why there is none.
-pub(crate) fn sought<'a>(
+pub(crate) fn find_entry<'a>(
     alloc: Global,
     entries: &'a Entries,
     name: &Text,
-) -> Result<&'a Entry, TypesFault>
-    ensures { MatchResult result (λ e. sought entries.now name.now
-        ≡ Ok e.now) (IsRefused (sought entries.now name.now)) }
+) -> Result<&'a TypeEntry, TypesFault>
+    ensures { MatchResult result (λ e. find_entry entries.now name.now
+        ≡ Ok e.now) (IsRefusedCall (find_entry entries.now name.now)) }
 {
     if !is_word_name(name.as_slice()) {
         return Err(TypesFault::User(RepoFault::IllegalServiceType(name.copy(alloc)?)));

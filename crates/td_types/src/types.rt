@@ -35,7 +35,7 @@ impl Drop for Types {
 impl Model for Types {
     ghost use Rattle.td_types.specs.Repository.{Repository};
     ghost use Rattle.td_types.specs.Kept.{repository, AreEntries};
-    ghost use Rattle.td_codes.specs.contracts.code.TypeCode as code;
+    ghost use Rattle.td_typecode.specs.contracts.code.TypeCode as code;
     ghost use Rattle.std.specs.Coded.{codes};
 
     ghost Value = { Repository };
@@ -52,7 +52,7 @@ impl Types {
     ///
     /// # Errors
     ///
-    /// `Memory` for want of memory alone.
+    /// `Memory` only when out of memory.
     pub fn new(alloc: Global, interfaces: List<(Text, List<Text>)>) -> Result<Types, Memory>
         ensures empty { IfOk result (λ t. t
             ≡ record { types = []; interfaces = interfaces; last = 0 }) }

@@ -8,21 +8,21 @@ use Rattle.td_cdr.specs.Gap.{gap, bytes_of}
 use Rattle.td_cdr.specs.Format.{Piece, ◌then◌, none_or, number, text}
 use Rattle.td_cdr.specs.Joined.{length-bytes_of}
 use Rattle.td_cdr.specs.Writing.{written_number}
-use Rattle.td_codes.specs.declared.code.TypeCode.{out-TypeCode}
-use Rattle.td_codes.specs.declared.code.TypeCode.TheVariants as code
-use Rattle.td_codes.specs.declared.code.TypeCode.TheOpen as layer_of
-use Rattle.td_codes.specs.declared.code.Value.{out-Value}
-use Rattle.td_codes.specs.declared.code.Any.{Any}
-use Rattle.td_codes.specs.declared.kinds.CodeKind.TheVariants as kind
-use Rattle.td_codes.specs.Codes.{kind_of}
-use Rattle.td_codes.specs.Kinds.{number_of}
-use Rattle.td_codes.specs.Labels.{Layer, plain_piece}
-use Rattle.td_codes.specs.Layers.{code-str}
-use Rattle.td_codes.specs.Outermost.{outer, outer_layer, layer-plain}
-use Rattle.td_codes.specs.Values.{anys, any_value, code_values, graph_values, text_in}
-use Rattle.td_codes.specs.WritingCodes.{code_piece, kind_piece}
-use Rattle.td_codes.proofs.AtLayers.{any-writes, code_piece-at, values-writes}
-use Rattle.td_codes.proofs.OfPlainKind.{is_plain, is_number, plain-piece, number-piece}
+use Rattle.td_typecode.specs.declared.code.TypeCode.{out-TypeCode}
+use Rattle.td_typecode.specs.declared.code.TypeCode.TheVariants as code
+use Rattle.td_typecode.specs.declared.code.TypeCode.TheOpen as layer_of
+use Rattle.td_typecode.specs.declared.code.Value.{out-Value}
+use Rattle.td_typecode.specs.declared.code.Any.{Any}
+use Rattle.td_typecode.specs.declared.kinds.CodeKind.TheVariants as kind
+use Rattle.td_typecode.specs.Codes.{kind_of}
+use Rattle.td_typecode.specs.Kinds.{number_of}
+use Rattle.td_typecode.specs.Labels.{Layer, plain_piece}
+use Rattle.td_typecode.specs.Layers.{code-str}
+use Rattle.td_typecode.specs.Outermost.{outer, outer_layer, layer-plain}
+use Rattle.td_typecode.specs.Values.{anys, any_value, code_values, graph_values, text_in}
+use Rattle.td_typecode.specs.WritingCodes.{code_piece, kind_piece}
+use Rattle.td_typecode.proofs.AtLayers.{any-writes, code_piece-at, values-writes}
+use Rattle.td_typecode.proofs.OfPlainKind.{is_plain, is_number, plain-piece, number-piece}
 
 number_ends : (size place v end : ℕ) → end ≡ place + (gap size place + size)
     → end ≡ place + length (written_number size Big place v)

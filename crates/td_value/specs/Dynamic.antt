@@ -2,10 +2,10 @@
 -- TypeCode, without aliases at every level.
 use Rattle.std.specs.Prelude.{ℕ, Bool, true, false, ◌&&◌, List, [], ◌∷◌, nat_eq, codes}
 use Rattle.std.specs.Cmp.Lexicographic.{pointwise}
-use Rattle.td_codes.specs.declared.code.TypeCode.{TypeCode}
-use Rattle.td_codes.specs.declared.kinds.CodeKind.TheVariants as kind
-use Rattle.td_codes.specs.Kinds.{number_of}
-use Rattle.td_codes.specs.Same.{Shapes, empty, node, Shape, shape}
+use Rattle.td_typecode.specs.declared.code.TypeCode.{TypeCode}
+use Rattle.td_typecode.specs.declared.kinds.CodeKind.TheVariants as kind
+use Rattle.td_typecode.specs.Kinds.{number_of}
+use Rattle.td_typecode.specs.Same.{Shapes, empty, node, Shape, shape}
 
 abbrev pub dynamic_id : List ℕ
 dynamic_id = codes "IDL:omg.org/CosTradingDynamic/DynamicProp:1.0"

@@ -3,9 +3,9 @@
 use Rattle.std.specs.Prelude.{refl}
 use Rattle.td_cdr.specs.Sound.{Sound, ◌&◌, structure, ulong, boolean, text, sequence}
 use Rattle.td_cdr.specs.declared.value_fault.ValueFault.{ValueFault}
-use Rattle.td_codes.specs.Outermost.{type_code}
-use Rattle.td_codes.specs.References.{reference}
-use Rattle.td_codes.specs.Values.{any_value}
+use Rattle.td_typecode.specs.Outermost.{type_code}
+use Rattle.td_typecode.specs.References.{reference}
+use Rattle.td_typecode.specs.Values.{any_value}
 use Rattle.td_value.specs.Enumerations.{follow_option, property_mode}
 use Rattle.td_value.specs.declared.structures.Property.{Property}
 use Rattle.td_value.specs.declared.structures.Policy.{Policy}

@@ -1,7 +1,7 @@
 -- The unions of the trading service (OMG's Trading Object Service, modules CosTrading and
 -- CosTradingRepos): a discriminator, and the member that it chooses.
 use Rattle.std.specs.Prelude.{Some, None, refl}
-use Rattle.td_cdr.specs.Sound.{Sound, Arm, arm, bare_arm, union, text, sequence}
+use Rattle.td_cdr.specs.Sound.{Sound, FormatArm, arm, bare_arm, union, text, sequence}
 use Rattle.td_cdr.specs.declared.value_fault.ValueFault.{ValueFault}
 use Rattle.td_value.specs.Enumerations.{how_many_props, list_option}
 use Rattle.td_value.specs.Structures.{incarnation_number}
@@ -19,7 +19,7 @@ props_tag props.None = how_many.None
 props_tag (props.Some names) = how_many.Some
 props_tag props.All = how_many.All
 
-abbrev pub props_under : HowManyProps → Arm ValueFault HowManyProps SpecifiedProps props_tag
+abbrev pub props_under : HowManyProps → FormatArm ValueFault HowManyProps SpecifiedProps props_tag
 props_under how_many.None = bare_arm props.None
 props_under how_many.Some =
     arm how_many.Some (λ names. props.Some names)
@@ -35,7 +35,8 @@ abbrev pub types_tag : SpecifiedServiceTypes → ListOption
 types_tag types.All = listed.All
 types_tag (types.Since i) = listed.Since
 
-abbrev pub types_under : ListOption → Arm ValueFault ListOption SpecifiedServiceTypes types_tag
+abbrev pub types_under : ListOption → FormatArm ValueFault ListOption SpecifiedServiceTypes
+    types_tag
 types_under listed.All = bare_arm types.All
 types_under listed.Since =
     arm listed.Since (λ i. types.Since i) (elim [ types.Since i ↦ Some i | _ ↦ None ]) (λ _. refl)

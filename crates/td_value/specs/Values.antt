@@ -1,2 +1,2 @@
 -- The format of an any, under its name here.
-pub use Rattle.td_codes.specs.Values.{any_value}
+pub use Rattle.td_typecode.specs.Values.{any_value}

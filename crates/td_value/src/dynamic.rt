@@ -2,12 +2,12 @@
 
 ghost use Rattle.std.specs.Prelude.{◌≡◌, map, nat_eq};
 ghost use Rattle.std.specs.Cmp.Lexicographic.{pointwise};
-ghost use Rattle.td_codes.specs.declared.kinds.CodeKind.TheVariants as kind;
-ghost use Rattle.td_codes.specs.Kinds.{number_of};
-ghost use Rattle.td_codes.specs.Same.{shape, row, member_entry};
+ghost use Rattle.td_typecode.specs.declared.kinds.CodeKind.TheVariants as kind;
+ghost use Rattle.td_typecode.specs.Kinds.{number_of};
+ghost use Rattle.td_typecode.specs.Same.{shape, row, member_entry};
 ghost use Rattle.td_value.specs.Dynamic.{dynamic_shape, has_kinds, dynamic_id, dynamic_kinds};
 
-use td_codes::{Member, TypeCode, bare};
+use td_typecode::{Member, TypeCode, bare};
 
 /// The repository id of a DynamicProp.
 const DYNAMIC_ID: &[u8] = b"IDL:omg.org/CosTradingDynamic/DynamicProp:1.0";

@@ -6,15 +6,15 @@ ghost use Rattle.td_cdr.specs.Format.{none_or};
 ghost use Rattle.td_cdr.specs.Gap.{gap};
 ghost use Rattle.td_cdr.specs.Sound.{octets, sequence, text};
 ghost use Rattle.td_cdr.specs.declared.order.Order.TheVariants.{Big};
-ghost use Rattle.td_codes.specs.declared.code.Value.{out-Value};
-ghost use Rattle.td_codes.specs.Labels.{plain_piece};
-ghost use Rattle.td_codes.specs.References.{profile, reference};
-ghost use Rattle.td_codes.specs.Values.{any_value, text_in};
+ghost use Rattle.td_typecode.specs.declared.code.Value.{out-Value};
+ghost use Rattle.td_typecode.specs.Labels.{plain_piece};
+ghost use Rattle.td_typecode.specs.References.{profile, reference};
+ghost use Rattle.td_typecode.specs.Values.{any_value, text_in};
 ghost use Rattle.td_value.specs.Structures.{offer, property};
 
 use crate::structures::Property;
 use td_cdr::{List, Octets, Text};
-use td_codes::{Any, Ior, Label, Profile, TypeCode, Value, label_of};
+use td_typecode::{Any, Ior, Label, Profile, TypeCode, Value, label_of};
 
 /// Where bytes end that begin at a place, behind the padding to a multiple of `size`. None where that
 /// is past the largest number.

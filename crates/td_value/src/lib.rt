@@ -18,7 +18,7 @@ pub use structures::{
     ProxyInfo, TypeStruct,
 };
 pub use td_cdr::ValueFault;
-pub use td_codes::{
+pub use td_typecode::{
     Any, Arm, Ior, LEVELS, Member, Mode, Profile, TypeCode, Value, anys_are_spelled,
     codes_are_spelled, read_any, read_ior, read_typecode, write_any, write_ior, write_typecode,
 };

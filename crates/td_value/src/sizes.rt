@@ -3,13 +3,13 @@
 ghost use Rattle.std.specs.Prelude.{◌≡◌, IfOk, length};
 ghost use Rattle.td_cdr.specs.declared.order.Order.TheVariants.{Big};
 ghost use Rattle.td_value.specs.Structures.{offer, type_struct};
-ghost use Rattle.td_codes.specs.Values.{any_value};
+ghost use Rattle.td_typecode.specs.Values.{any_value};
 
 use crate::ends::plain_offer_size;
 use crate::structures::{Property, TypeStruct};
 use std::alloc::Global;
 use td_cdr::{List, Memory, Order, Spelled, Writer, put_two};
-use td_codes::{Any, Ior};
+use td_typecode::{Any, Ior};
 
 /// The length of what is written for a value.
 fn size_of<T: Spelled>(alloc: Global, value: &T) -> Result<usize, Memory>
@@ -25,7 +25,7 @@ fn size_of<T: Spelled>(alloc: Global, value: &T) -> Result<usize, Memory>
 ///
 /// # Errors
 ///
-/// `Memory` for want of memory, or where there are 2^32 bytes or more.
+/// `Memory` when out of memory, or where there are 2^32 bytes or more.
 pub fn offer_size(
     alloc: Global,
     reference: &Ior,

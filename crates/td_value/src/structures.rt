@@ -11,7 +11,7 @@ use td_cdr::{
     List, Memory, Reader, Shared, Spelled, Text, Twin, ValueFault, Writer, put_five, put_four,
     put_six, put_three, put_two,
 };
-use td_codes::{Any, Ior, TypeCode};
+use td_typecode::{Any, Ior, TypeCode};
 
 /// A property of an offer.
 pub struct Property {

@@ -16,9 +16,9 @@ use Rattle.td_visit.proofs.Readings.{longer, same-ok, reading-name, reading-trie
 use Rattle.td_walk.specs.Resolving.{dynamic_named, is_evaluated}
 use Rattle.td_visit.specs.Resuming.{tried_on, made_trying, searched_on, searched_up_to}
 use Rattle.td_visit.specs.Resuming.{made_completing, completed_up_to}
-use Rattle.td_walk.specs.Told.{comes_to, made_up_to, TellsMore}
-use Rattle.td_walk.specs.Visits.{Reads, evaluation, evaluated_property, evaluated_name, evaluated}
-use Rattle.td_walk.specs.Visits.{matches_all, if_matching, is_ordinary, desired_names, completed, all_completed}
+use Rattle.td_walk.specs.Questions.{comes_to, made_up_to, TellsMore}
+use Rattle.td_walk.specs.Visits.{AnswersRead, evaluation, evaluated_property, evaluated_name, evaluate_names}
+use Rattle.td_walk.specs.Visits.{matches_all, if_matching, is_ordinary, desired_names, complete_offer, all_completed}
 use Rattle.td_walk.specs.declared.answer.Next.{Next}
 use Rattle.td_walk.specs.declared.answer.StepAnswer.{StepAnswer}
 use Rattle.td_walk.specs.declared.evaluation.Evaluation.{Evaluation}
@@ -68,7 +68,7 @@ Settled ps made name =
 settled-evaluated : (ps : List Property) (made : List Evaluation) (name : List ℕ) → is_evaluated made name ≡ true
     → Settled ps made name
 settled-evaluated ps made name e more rest =
-    if-true {A = Reads (List Evaluation)} (is_evaluated (made ++ more) name) (Ok (made ++ more, rest))
+    if-true {A = AnswersRead (List Evaluation)} (is_evaluated (made ++ more) name) (Ok (made ++ more, rest))
     (evaluated_property (made ++ more) name (dynamic_named ps name) rest) (still-evaluated made more name e)
 
 either-way : (made : List Evaluation) (name : List ℕ) (rest : List StepAnswer) (b : Bool) (o : Option DynamicProp)
@@ -88,7 +88,7 @@ record IsMade (ps : List Property) (made : List Evaluation) (name : List ℕ) (n
   settled : Settled ps now name
 
 kept-made : (ps : List Property) (made : List Evaluation) (name : List ℕ) (answers : List StepAnswer)
-    (r : List Evaluation × List StepAnswer) → ◌≡◌ {A = Reads (List Evaluation)} (Ok (made, answers)) (Ok r)
+    (r : List Evaluation × List StepAnswer) → ◌≡◌ {A = AnswersRead (List Evaluation)} (Ok (made, answers)) (Ok r)
     → Settled ps made name → IsMade ps made name r.0
 kept-made ps made name answers r e h =
     let is : made ≡ r.0 =
@@ -136,7 +136,7 @@ grown-up-to ps (name ∷ names) made answers =
     by_first (grown-up-to ps names) (evaluated_name ps made name answers) refl
   where
     by_first : ((m : List Evaluation) (xs : List StepAnswer) → Grows m (made_up_to ps m names xs))
-        → (o : Reads (List Evaluation)) → evaluated_name ps made name answers ≡ o
+        → (o : AnswersRead (List Evaluation)) → evaluated_name ps made name answers ≡ o
         → Grows made (comes_to o (λ r. made_up_to ps r.0 names r.1) made)
     by_first below (Err q) e = record { more = []; is = sym (append-nil made) }
     by_first below (Ok r) e =
@@ -157,21 +157,21 @@ none-left made name false (Some d) [] q e = refl
 none-left made name false (Some d) (a ∷ answers) q e = absurd cc
 
 pub again : (ps : List Property) (names : Names) (made : List Evaluation) (answers : List StepAnswer) (q : Next)
-    (rest : List StepAnswer) → evaluated ps made names answers ≡ Err q
-    → evaluated ps made names (answers ++ rest) ≡ evaluated ps (made_up_to ps made names answers) names rest
+    (rest : List StepAnswer) → evaluate_names ps made names answers ≡ Err q
+    → evaluate_names ps made names (answers ++ rest) ≡ evaluate_names ps (made_up_to ps made names answers) names rest
 again ps [] made answers q rest e = absurd cc
 again ps (name ∷ names) made answers q rest e =
     by_first (again ps names) (evaluated_name ps made name answers) refl e
   where
     by_first : ((m : List Evaluation) (xs : List StepAnswer) (q : Next) (rest : List StepAnswer)
-        → evaluated ps m names xs ≡ Err q
-        → evaluated ps m names (xs ++ rest) ≡ evaluated ps (made_up_to ps m names xs) names rest)
-        → (o : Reads (List Evaluation)) → evaluated_name ps made name answers ≡ o
-        → (o >>= λ r. evaluated ps r.0 names r.1) ≡ Err q
-        → evaluated ps made (name ∷ names) (answers ++ rest)
-        ≡ evaluated ps (comes_to o (λ r. made_up_to ps r.0 names r.1) made) (name ∷ names) rest
+        → evaluate_names ps m names xs ≡ Err q
+        → evaluate_names ps m names (xs ++ rest) ≡ evaluate_names ps (made_up_to ps m names xs) names rest)
+        → (o : AnswersRead (List Evaluation)) → evaluated_name ps made name answers ≡ o
+        → (o >>= λ r. evaluate_names ps r.0 names r.1) ≡ Err q
+        → evaluate_names ps made (name ∷ names) (answers ++ rest)
+        ≡ evaluate_names ps (comes_to o (λ r. made_up_to ps r.0 names r.1) made) (name ∷ names) rest
     by_first below (Err p) is e =
-        ap (λ (xs : List StepAnswer). evaluated ps made (name ∷ names) (xs ++ rest))
+        ap (λ (xs : List StepAnswer). evaluate_names ps made (name ∷ names) (xs ++ rest))
         (none-left made name (is_evaluated made name) (dynamic_named ps name) answers p is)
     by_first below (Ok r) is e =
         let next : List Evaluation = made_up_to ps r.0 names r.1 in
@@ -182,23 +182,23 @@ again ps (name ∷ names) made answers q rest e =
         let skipped : evaluated_name ps next name rest ≡ Ok (next, rest) =
         subst (λ (m : List Evaluation). evaluated_name ps m name rest ≡ Ok (m, rest)) (sym two.is)
         (one.settled two.more rest) in
-        ap (λ (o : Reads (List Evaluation)). o >>= λ r. evaluated ps r.0 names r.1) behind
+        ap (λ (o : AnswersRead (List Evaluation)). o >>= λ r. evaluate_names ps r.0 names r.1) behind
         ∙ (below r.0 r.1 q rest e
-        ∙ sym (ap (λ (o : Reads (List Evaluation)). o >>= λ r. evaluated ps r.0 names r.1) skipped))
+        ∙ sym (ap (λ (o : AnswersRead (List Evaluation)). o >>= λ r. evaluate_names ps r.0 names r.1) skipped))
 
 -- ---- the search
 
-abbrev matched : Local → OfferRecord → Reads (List Evaluation) → Reads (List Found)
+abbrev matched : Local → OfferRecord → AnswersRead (List Evaluation) → AnswersRead (List Found)
 matched l o r = r >>= λ x. Ok (if_matching l o x.0, x.1)
 
-err-of : (l : Local) (o : OfferRecord) (r : Reads (List Evaluation)) (q : Next) → matched l o r ≡ Err q → r ≡ Err q
+err-of : (l : Local) (o : OfferRecord) (r : AnswersRead (List Evaluation)) (q : Next) → matched l o r ≡ Err q → r ≡ Err q
 err-of l o (Ok x) q e = absurd cc
 err-of l o (Err p) q e = let s : p ≡ q = cc in ap (λ (z : Next). Err z) s
 
-abbrev tried_by : Bool → Local → OfferRecord → List Evaluation → List StepAnswer → Reads (List Found)
+abbrev tried_by : Bool → Local → OfferRecord → List Evaluation → List StepAnswer → AnswersRead (List Found)
 tried_by b l o made answers =
     if b then Ok (record { offer = o; made = made } ∷ [], answers)
-    else evaluated o.properties made (names_asked l.constraint l.preference) answers
+    else evaluate_names o.properties made (names_asked l.constraint l.preference) answers
     >>= λ r. Ok (if_matching l o r.0, r.1)
 
 tried-again-by : (b : Bool) (l : Local) (o : OfferRecord) (made : List Evaluation) (answers : List StepAnswer)
@@ -208,8 +208,8 @@ tried-again-by : (b : Bool) (l : Local) (o : OfferRecord) (made : List Evaluatio
 tried-again-by true l o made answers q rest e = absurd cc
 tried-again-by false l o made answers q rest e =
     let names : Names = names_asked l.constraint l.preference in
-    let is : evaluated o.properties made names answers ≡ Err q =
-    err-of l o (evaluated o.properties made names answers) q e in
+    let is : evaluate_names o.properties made names answers ≡ Err q =
+    err-of l o (evaluate_names o.properties made names answers) q e in
     ap (matched l o) (again o.properties names made answers q rest is)
 
 tried-again : (l : Local) (o : OfferRecord) (made : List Evaluation) (answers : List StepAnswer) (q : Next)
@@ -218,12 +218,12 @@ tried-again : (l : Local) (o : OfferRecord) (made : List Evaluation) (answers : 
 tried-again l o made answers q rest e =
     let names : Names = names_asked l.constraint l.preference in
     let is : made_trying l o made answers ≡ made_up_to o.properties made names answers =
-    ap (λ (r : Reads (List Found)). comes_to r (λ x. []) (made_up_to o.properties made names answers)) e in
+    ap (λ (r : AnswersRead (List Found)). comes_to r (λ x. []) (made_up_to o.properties made names answers)) e in
     tried-again-by (matches_all o.proxy) l o made answers q rest e
     ∙ sym (ap (λ (m : List Evaluation). tried_on l o m rest) is)
 
 -- so many of the candidates were tried, and from there the search goes on
-pub record GoesOn (reads : List StepAnswer → Reads (List Found)) (l : Local) (os : List OfferRecord) (tried : ℕ)
+pub record GoesOn (reads : List StepAnswer → AnswersRead (List Found)) (l : Local) (os : List OfferRecord) (tried : ℕ)
     (answers : List StepAnswer) (s : Scan) : Type 0 where
   pub passed : ℕ
   pub count : s.tried ≡ tried + passed
@@ -231,11 +231,11 @@ pub record GoesOn (reads : List StepAnswer → Reads (List Found)) (l : Local) (
   pub goes : (rest : List StepAnswer)
       → reads (answers ++ rest) ≡ searched_on l (drop passed os) s.found s.made rest
 
-abbrev on : Local → List OfferRecord → List Found → Reads (List Found) → Reads (List Found)
+abbrev on : Local → List OfferRecord → List Found → AnswersRead (List Found) → AnswersRead (List Found)
 on l os found r = r >>= λ x. searched_on l os (found ++ x.0) [] x.1
 
 abbrev up_to : Local → OfferRecord → List OfferRecord → ℕ → List Found → List Evaluation → List StepAnswer
-    → Reads (List Found) → Scan
+    → AnswersRead (List Found) → Scan
 up_to l o os tried found made answers r =
     comes_to r (λ x. searched_up_to l os (tried + 1) (found ++ x.0) [] x.1)
     (record { tried = tried; made = made_trying l o made answers; found = found })
@@ -252,7 +252,7 @@ search-again l [] tried found made answers q e = absurd cc
 search-again l (o ∷ os) tried found made answers q e =
     by_full (search-again l os) (nat_le l.effective.match_card (length found)) refl e
   where
-    by_one : Below l os → nat_le l.effective.match_card (length found) ≡ false → (r : Reads (List Found))
+    by_one : Below l os → nat_le l.effective.match_card (length found) ≡ false → (r : AnswersRead (List Found))
         → tried_on l o made answers ≡ r → on l os found r ≡ Err q
         → GoesOn (searched_on l (o ∷ os) found made) l (o ∷ os) tried answers (up_to l o os tried found made answers r)
     by_one below room (Err p) is e = record {
@@ -260,10 +260,10 @@ search-again l (o ∷ os) tried found made answers q e =
       count = omega arith;
       within = omega arith;
       goes = λ rest.
-          if-false {A = Reads (List Found)} (nat_le l.effective.match_card (length found)) (Ok (found, answers ++ rest))
+          if-false {A = AnswersRead (List Found)} (nat_le l.effective.match_card (length found)) (Ok (found, answers ++ rest))
           (on l os found (tried_on l o made (answers ++ rest))) room
           ∙ (ap (on l os found) (tried-again l o made answers p rest is)
-          ∙ sym (if-false {A = Reads (List Found)} (nat_le l.effective.match_card (length found)) (Ok (found, rest))
+          ∙ sym (if-false {A = AnswersRead (List Found)} (nat_le l.effective.match_card (length found)) (Ok (found, rest))
           (on l os found (tried_on l o (made_trying l o made answers) rest)) room));
     }
     by_one below room (Ok x) is e =
@@ -273,7 +273,7 @@ search-again l (o ∷ os) tried found made answers q e =
           count = omega (arith, b.count);
           within = omega (arith, b.within);
           goes = λ rest.
-              if-false {A = Reads (List Found)} (nat_le l.effective.match_card (length found))
+              if-false {A = AnswersRead (List Found)} (nat_le l.effective.match_card (length found))
               (Ok (found, answers ++ rest)) (on l os found (tried_on l o made (answers ++ rest))) room
               ∙ (ap (on l os found) (longer (tried_on l o made) answers x.0 x.1 rest (reading-tried l o made) is)
               ∙ b.goes rest);
@@ -302,7 +302,7 @@ within-all l (o ∷ os) tried found made answers =
     by_full (within-all l os) (nat_le l.effective.match_card (length found)) (tried_on l o made answers)
   where
     by_full : ((n : ℕ) (fs : List Found) (m : List Evaluation) (xs : List StepAnswer)
-        → (searched_up_to l os n fs m xs).tried ≤ n + length os) → (b : Bool) (r : Reads (List Found))
+        → (searched_up_to l os n fs m xs).tried ≤ n + length os) → (b : Bool) (r : AnswersRead (List Found))
         → (full_or b (record { tried = tried; made = made; found = found })
         (up_to l o os tried found made answers r)).tried ≤ tried + length (o ∷ os)
     by_full below true r = omega arith
@@ -313,24 +313,24 @@ within-all l (o ∷ os) tried found made answers =
 
 completed-again-by : (b : Bool) (o : OfferRecord) (names : Names) (made : List Evaluation) (answers : List StepAnswer)
     (q : Next) (rest : List StepAnswer)
-    → (if b then evaluated o.properties made names answers else Ok (made, answers)) ≡ Err q
-    → (if b then evaluated o.properties made names (answers ++ rest) else Ok (made, answers ++ rest))
-    ≡ (if b then evaluated o.properties (if b then made_up_to o.properties made names answers else made) names rest
+    → (if b then evaluate_names o.properties made names answers else Ok (made, answers)) ≡ Err q
+    → (if b then evaluate_names o.properties made names (answers ++ rest) else Ok (made, answers ++ rest))
+    ≡ (if b then evaluate_names o.properties (if b then made_up_to o.properties made names answers else made) names rest
     else Ok (if b then made_up_to o.properties made names answers else made, rest))
 completed-again-by true o names made answers q rest e = again o.properties names made answers q rest e
 completed-again-by false o names made answers q rest e = absurd cc
 
 completed-again : (desired : SpecifiedProps) (o : OfferRecord) (made : List Evaluation) (answers : List StepAnswer)
-    (q : Next) (rest : List StepAnswer) → completed desired o made answers ≡ Err q
-    → completed desired o made (answers ++ rest)
-    ≡ completed desired o (made_completing desired o made answers) rest
+    (q : Next) (rest : List StepAnswer) → complete_offer desired o made answers ≡ Err q
+    → complete_offer desired o made (answers ++ rest)
+    ≡ complete_offer desired o (made_completing desired o made answers) rest
 completed-again desired o made answers q rest e =
     completed-again-by (is_ordinary o) o (desired_names desired o.properties) made answers q rest e
 
 abbrev with_made : OfferRecord → List Evaluation → Found
 with_made o made = record { offer = o; made = made }
 
-abbrev onwards : SpecifiedProps → List StepAnswer → Completion → Reads (List Found)
+abbrev onwards : SpecifiedProps → List StepAnswer → Completion → AnswersRead (List Found)
 onwards desired rest c = all_completed desired c.complete c.waiting rest
 
 pub all-again : (desired : SpecifiedProps) (before fs : List Found) (answers : List StepAnswer) (q : Next)
@@ -340,12 +340,12 @@ pub all-again : (desired : SpecifiedProps) (before fs : List Found) (answers : L
     (completed_up_to desired before fs answers).waiting rest
 all-again desired before [] answers q rest e = absurd cc
 all-again desired before (f ∷ fs) answers q rest e =
-    by_first (λ before xs q e. all-again desired before fs xs q rest e) (completed desired f.offer f.made answers) refl
+    by_first (λ before xs q e. all-again desired before fs xs q rest e) (complete_offer desired f.offer f.made answers) refl
     e
   where
     by_first : ((before : List Found) (xs : List StepAnswer) (q : Next) → all_completed desired before fs xs ≡ Err q
         → all_completed desired before fs (xs ++ rest) ≡ onwards desired rest (completed_up_to desired before fs xs))
-        → (r : Reads (List Evaluation)) → completed desired f.offer f.made answers ≡ r
+        → (r : AnswersRead (List Evaluation)) → complete_offer desired f.offer f.made answers ≡ r
         → (r >>= λ x. all_completed desired (before ++ with_made f.offer x.0 ∷ []) fs x.1) ≡ Err q
         → all_completed desired before (f ∷ fs) (answers ++ rest)
         ≡ onwards desired rest (comes_to r (λ x. completed_up_to desired (before ++ with_made f.offer x.0 ∷ []) fs x.1)
@@ -354,13 +354,13 @@ all-again desired before (f ∷ fs) answers q rest e =
           complete = before;
         }))
     by_first below (Err p) is e =
-        ap (λ (r : Reads (List Evaluation)). r
+        ap (λ (r : AnswersRead (List Evaluation)). r
         >>= λ x. all_completed desired (before ++ with_made f.offer x.0 ∷ []) fs x.1)
         (completed-again desired f.offer f.made answers p rest is)
     by_first below (Ok x) is e =
-        ap (λ (r : Reads (List Evaluation)). r
+        ap (λ (r : AnswersRead (List Evaluation)). r
         >>= λ x. all_completed desired (before ++ with_made f.offer x.0 ∷ []) fs x.1)
-        (longer (completed desired f.offer f.made) answers x.0 x.1 rest (reading-completed desired f.offer f.made) is)
+        (longer (complete_offer desired f.offer f.made) answers x.0 x.1 rest (reading-completed desired f.offer f.made) is)
         ∙ below (before ++ with_made f.offer x.0 ∷ []) x.1 q e
 
 pub all-ends : (desired : SpecifiedProps) (before fs : List Found) (answers : List StepAnswer) (all : List Found)
@@ -370,11 +370,11 @@ all-ends desired before [] answers all left e =
     ap (λ (z : List Found × List StepAnswer). let c : Completion = record { waiting = []; complete = z.0 } in c)
     (same-ok {X = List Found} (before, answers) (all, left) e)
 all-ends desired before (f ∷ fs) answers all left e =
-    by_first (λ before xs e. all-ends desired before fs xs all left e) (completed desired f.offer f.made answers) e
+    by_first (λ before xs e. all-ends desired before fs xs all left e) (complete_offer desired f.offer f.made answers) e
   where
     by_first : ((before : List Found) (xs : List StepAnswer) → all_completed desired before fs xs ≡ Ok (all, left)
         → completed_up_to desired before fs xs ≡ record { waiting = []; complete = all })
-        → (r : Reads (List Evaluation))
+        → (r : AnswersRead (List Evaluation))
         → (r >>= λ x. all_completed desired (before ++ with_made f.offer x.0 ∷ []) fs x.1) ≡ Ok (all, left)
         → comes_to r (λ x. completed_up_to desired (before ++ with_made f.offer x.0 ∷ []) fs x.1)
         (record {
@@ -386,7 +386,7 @@ all-ends desired before (f ∷ fs) answers all left e =
 
 -- ---- one candidate more
 
-abbrev added : List Found → Reads (List Found) → Reads (List Found)
+abbrev added : List Found → AnswersRead (List Found) → AnswersRead (List Found)
 added found r = r >>= λ x. Ok (found ++ x.0, x.1)
 
 pub step : (l : Local) (o : OfferRecord) (os : List OfferRecord) (tried : ℕ) (found found2 : List Found)
@@ -398,7 +398,7 @@ pub step : (l : Local) (o : OfferRecord) (os : List OfferRecord) (tried : ℕ) (
 step l o os tried found found2 made made2 left left2 (Some q) none room h is = absurd cc
 step l o os tried found found2 made made2 left left2 None none room h is = by_read (tried_on l o made left) refl h
   where
-    by_read : (r : Reads (List Found)) → tried_on l o made left ≡ r → added found r ≡ Ok (found2, left2)
+    by_read : (r : AnswersRead (List Found)) → tried_on l o made left ≡ r → added found r ≡ Ok (found2, left2)
         → (searched_on l os found2 made2 left2 ≡ searched_on l (o ∷ os) found made left)
         × (searched_up_to l os (tried + 1) found2 made2 left2 ≡ searched_up_to l (o ∷ os) tried found made left)
     by_read (Err q) e h = absurd cc
@@ -407,7 +407,7 @@ step l o os tried found found2 made made2 left left2 None none room h is = by_re
         let one : found ++ x.0 ≡ found2 = ap (λ (z : List Found × List StepAnswer). z.0) pair in
         let two : x.1 ≡ left2 = ap (λ (z : List Found × List StepAnswer). z.1) pair in
         let new : made2 ≡ [] =
-        is ∙ ap (λ (r : Reads (List Found)). comes_to r (λ y. [])
+        is ∙ ap (λ (r : AnswersRead (List Found)). comes_to r (λ y. [])
         (made_up_to o.properties made (names_asked l.constraint l.preference) left)) e in
         let reads : searched_on l os (found ++ x.0) [] x.1 ≡ searched_on l os found2 made2 left2 =
         ap (λ (fs : List Found). searched_on l os fs [] x.1) one
@@ -418,7 +418,7 @@ step l o os tried found found2 made made2 left left2 None none room h is = by_re
         ap (λ (fs : List Found). searched_up_to l os (tried + 1) fs [] x.1) one
         ∙ (ap (λ (xs : List StepAnswer). searched_up_to l os (tried + 1) found2 [] xs) two
         ∙ ap (λ (m : List Evaluation). searched_up_to l os (tried + 1) found2 m left2) (sym new)) in (
-          sym (if-false {A = Reads (List Found)} (nat_le l.effective.match_card (length found)) (Ok (found, left))
+          sym (if-false {A = AnswersRead (List Found)} (nat_le l.effective.match_card (length found)) (Ok (found, left))
               (on l os found (tried_on l o made left)) room ∙ (ap (on l os found) e ∙ reads)),
           sym (if-false {A = Scan} (nat_le l.effective.match_card (length found))
               (record { tried = tried; made = made; found = found })

@@ -9,8 +9,9 @@ use Rattle.td_store.specs.declared.record.OfferRecord.{OfferRecord}
 use Rattle.td_store.specs.declared.record.ProxyPart.{ProxyPart}
 use Rattle.td_visit.specs.Resuming.{steps_by, wanted_by}
 use Rattle.td_walk.specs.SubQueries.{link_step, link_query, is_full, follows, proxy_step, proxy_call, proxy_query}
-use Rattle.td_walk.specs.SubQueries.{has_hops, expanded, path_query}
-use Rattle.td_walk.specs.Visits.{Reads, Step, less, stepped, forwarded, is_ordinary, path_step, steps, sub_answer}
+use Rattle.td_walk.specs.SubQueries.{has_hops, expansion_of, path_query}
+use Rattle.td_walk.specs.Visits.{AnswersRead, Step, less, take_step, forward_steps, is_ordinary, path_step, steps}
+use Rattle.td_walk.specs.Visits.{sub_answer}
 use Rattle.td_walk.specs.declared.answer.Next.{Next}
 use Rattle.td_walk.specs.declared.answer.Next.TheVariants.{Done, Forward}
 use Rattle.td_walk.specs.declared.answer.StepAnswer.{StepAnswer}
@@ -60,8 +61,8 @@ proxy-asks l o wanted q e last = by_part o.proxy e
 
     by_hops : (part : ProxyPart) (b : Bool)
         → (if b then option_map (λ (text : List ℕ). Forward o.reference (proxy_query l wanted part text))
-        (expanded l.query.constraint o part) else None) ≡ Some q → ⊥
-    by_hops part true e = by_text part (expanded l.query.constraint o part) e
+        (expansion_of l.query.constraint o part) else None) ≡ Some q → ⊥
+    by_hops part true e = by_text part (expansion_of l.query.constraint o part) e
     by_hops part false e = absurd cc
 
     by_part : (p : Option ProxyPart) → proxy_call l wanted o p ≡ Some q → ⊥
@@ -89,30 +90,30 @@ all-ask (Some link) l found = (path-asks l link, tt)
 
 -- ---- the question at which the asking stops
 
-abbrev given_first : StepAnswer → Reads (List SubAnswer) → Reads (List SubAnswer)
+abbrev given_first : StepAnswer → AnswersRead (List SubAnswer) → AnswersRead (List SubAnswer)
 given_first a r = r >>= λ s. Ok (sub_answer a ∷ s.0, s.1)
 
 first-asks : (ss : List Step) (wanted : Option ℕ) (answers : List StepAnswer) (q : Next) → AllByRecursion Asks ss
-    → forwarded wanted ss answers ≡ Err q → NotDone q
+    → forward_steps wanted ss answers ≡ Err q → NotDone q
 first-asks [] wanted answers q h e = absurd cc
 first-asks (step ∷ ss) wanted answers q h e =
     by_step (λ w xs p is. first-asks ss w xs p h.1 is) (step wanted) refl answers e
   where
-    by_rest : ((w : Option ℕ) (xs : List StepAnswer) (p : Next) → forwarded w ss xs ≡ Err p → NotDone p)
-        → (a : StepAnswer) (xs : List StepAnswer) (r : Reads (List SubAnswer))
-        → forwarded (less wanted (sub_answer a)) ss xs ≡ r → given_first a r ≡ Err q → NotDone q
+    by_rest : ((w : Option ℕ) (xs : List StepAnswer) (p : Next) → forward_steps w ss xs ≡ Err p → NotDone p)
+        → (a : StepAnswer) (xs : List StepAnswer) (r : AnswersRead (List SubAnswer))
+        → forward_steps (less wanted (sub_answer a)) ss xs ≡ r → given_first a r ≡ Err q → NotDone q
     by_rest below a xs (Ok s) is e = absurd cc
     by_rest below a xs (Err p) is e =
         let same : p ≡ q = cc in subst NotDone same (below (less wanted (sub_answer a)) xs p is)
 
-    by_step : ((w : Option ℕ) (xs : List StepAnswer) (p : Next) → forwarded w ss xs ≡ Err p → NotDone p)
+    by_step : ((w : Option ℕ) (xs : List StepAnswer) (p : Next) → forward_steps w ss xs ≡ Err p → NotDone p)
         → (o : Option Next) → step wanted ≡ o → (xs : List StepAnswer)
-        → stepped o (λ a. forwarded (less wanted a) ss) (forwarded wanted ss) xs ≡ Err q → NotDone q
+        → take_step o (λ a. forward_steps (less wanted a) ss) (forward_steps wanted ss) xs ≡ Err q → NotDone q
     by_step below None is xs e = below wanted xs q e
     by_step below (Some p) is [] e = let same : p ≡ q = cc in subst NotDone same (h.0 wanted p is)
     by_step below (Some p) is (a ∷ xs) e =
-        by_rest below a xs (forwarded (less wanted (sub_answer a)) ss xs) refl e
+        by_rest below a xs (forward_steps (less wanted (sub_answer a)) ss xs) refl e
 
 pub asked : (path : Option LinkRecord) (l : Local) (found : List Found) (answers : List StepAnswer) (q : Next)
-    → forwarded (wanted_by path l found) (steps_by path l found) answers ≡ Err q → q ≡ Done → ⊥
+    → forward_steps (wanted_by path l found) (steps_by path l found) answers ≡ Err q → q ≡ Done → ⊥
 asked path l found answers q e = first-asks (steps_by path l found) (wanted_by path l found) answers q (all-ask path l found) e

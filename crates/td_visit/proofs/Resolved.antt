@@ -9,8 +9,8 @@ use Rattle.td_eval.specs.Properties.{property}
 use Rattle.td_store.specs.Candidates.{has_dynamic, is_dynamic}
 use Rattle.td_value.specs.declared.structures.Property.{Property}
 use Rattle.td_walk.specs.Resolving.{dynamic_named, dynamic_of, is_evaluated, resolved, resolved_property}
-use Rattle.td_walk.specs.Told.{comes_to, made_up_to}
-use Rattle.td_walk.specs.Visits.{Reads, evaluated, evaluated_name, evaluated_property}
+use Rattle.td_walk.specs.Questions.{comes_to, made_up_to}
+use Rattle.td_walk.specs.Visits.{AnswersRead, evaluate_names, evaluated_name, evaluated_property}
 use Rattle.td_walk.specs.declared.answer.StepAnswer.{StepAnswer}
 use Rattle.td_walk.specs.declared.evaluation.Evaluation.{Evaluation}
 
@@ -50,7 +50,7 @@ none-named (p ∷ ps) name e =
     none-first p (find (λ (x : Property). bytes_eq x.name name) ps) (bytes_eq p.name name) h.0 (none-named ps name h.1)
 
 none-by : (b : Bool) (made : List Evaluation) (answers : List StepAnswer)
-    → (let r : Reads (List Evaluation) = cond b (Ok (made, answers)) (Ok (made, answers)) in r) ≡ Ok (made, answers)
+    → (let r : AnswersRead (List Evaluation) = cond b (Ok (made, answers)) (Ok (made, answers)) in r) ≡ Ok (made, answers)
 none-by true made answers = refl
 none-by false made answers = refl
 
@@ -59,7 +59,7 @@ none-evaluated : (ps : List Property) (made : List Evaluation) (name : List ℕ)
 none-evaluated ps made name answers e = rw (none-named ps name e) (none-by (is_evaluated made name) made answers)
 
 pub all_evaluated : (ps : List Property) (made : List Evaluation) (names : Names) (answers : List StepAnswer)
-    → has_dynamic ps ≡ false → evaluated ps made names answers ≡ Ok (made, answers)
+    → has_dynamic ps ≡ false → evaluate_names ps made names answers ≡ Ok (made, answers)
 all_evaluated ps made [] answers e = refl
 all_evaluated ps made (name ∷ names) answers e =
     rw (none-evaluated ps made name answers e) (all_evaluated ps made names answers e)
@@ -71,7 +71,7 @@ none_made ps made (name ∷ names) answers e =
     rw (none-evaluated ps made name answers e) (none_made ps made names answers e)
 
 pub nothing_asked : (ps : List Property) (made : List Evaluation) (names : Names) (answers : List StepAnswer)
-    (dynamic : Bool) → dynamic ≡ has_dynamic ps → dynamic ≡ false → evaluated ps made names answers ≡ Ok (made, answers)
+    (dynamic : Bool) → dynamic ≡ has_dynamic ps → dynamic ≡ false → evaluate_names ps made names answers ≡ Ok (made, answers)
 nothing_asked ps made names answers dynamic is e = all_evaluated ps made names answers (sym is ∙ e)
 
 pub nothing_made : (ps : List Property) (made : List Evaluation) (names : Names) (answers : List StepAnswer)

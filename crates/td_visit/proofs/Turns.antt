@@ -5,12 +5,12 @@ use Rattle.std.proofs.lemmas.List.{drop-drop, drop_all, drop_more, length-append
 use Rattle.td_store.specs.declared.local.Local.{Local}
 use Rattle.td_store.specs.declared.record.LinkRecord.{LinkRecord}
 use Rattle.td_visit.proofs.Forwarding.{skips, passes, stops, ends}
-use Rattle.td_visit.specs.Resuming.{asks_first, first_wanted, steps_left, behind, GoesOn, IsPlaceInSearch}
+use Rattle.td_visit.specs.Resuming.{asks_first, first_wanted, steps_left, behind, ResumesWith, IsPlaceInSearch}
 use Rattle.td_visit.specs.Resuming.{IsPlaceOnPath, IsPlaceBy, IsPlace, step_asks, passed_by, with_answer, Forwards, ForwardsBy}
 use Rattle.td_visit.specs.Resuming.{CallsTo}
 use Rattle.td_visit.specs.declared.progress.Others.{Others}
 use Rattle.td_walk.specs.SubQueries.{link_step, path_query, proxy_step}
-use Rattle.td_walk.specs.Visits.{Reads, Step, forwarded, less, path_step, steps, sub_answer}
+use Rattle.td_walk.specs.Visits.{AnswersRead, Step, forward_steps, less, path_step, steps, sub_answer}
 use Rattle.td_walk.specs.declared.answer.Next.{Next}
 use Rattle.td_walk.specs.declared.answer.Next.TheVariants.{Forward}
 use Rattle.td_walk.specs.declared.answer.StepAnswer.{StepAnswer}
@@ -96,14 +96,14 @@ link-first l found others link all at =
 record IsBehind (first : Option ℕ) (all : List Step) (answers : List StepAnswer) (left : List Step) (old new : Others)
     : Type 0 where
   given : new.given ≤ length answers
-  goes : GoesOn first all answers new.given new.wanted left
+  goes : ResumesWith first all answers new.given new.wanted left
   same_match : new.local_match ≡ old.local_match
   same_offers : new.offers ≡ old.offers
   same_links : new.links ≡ old.links
 
 behind-step : (first : Option ℕ) (all : List Step) (answers : List StepAnswer) (step : Step) (left : List Step)
     (old new : Others) (asked question : Option Next) → old.given ≤ length answers
-    → GoesOn first all answers old.given old.wanted (step ∷ left) → asked ≡ step old.wanted
+    → ResumesWith first all answers old.given old.wanted (step ∷ left) → asked ≡ step old.wanted
     → question ≡ step_asks asked (drop old.given answers) → new ≡ passed_by asked (drop old.given answers) old
     → is_some question ≡ false → IsBehind first all answers left old new
 behind-step first all answers step left old new asked question within h same asks is none =
@@ -135,16 +135,16 @@ behind-step first all answers step left old new asked question within h same ask
 -- its question stands
 asks-there : (first : Option ℕ) (all : List Step) (answers : List StepAnswer) (step : Step) (left : List Step)
     (old new : Others) (asked question : Option Next)
-    → GoesOn first all answers old.given old.wanted (step ∷ left) → asked ≡ step old.wanted
+    → ResumesWith first all answers old.given old.wanted (step ∷ left) → asked ≡ step old.wanted
     → question ≡ step_asks asked (drop old.given answers) → new ≡ passed_by asked (drop old.given answers) old
     → is_some question ≡ true
-    → (q : Next) × (question ≡ Some q) × (forwarded first all answers ≡ Err q) × (new ≡ old)
+    → (q : Next) × (question ≡ Some q) × (forward_steps first all answers ≡ Err q) × (new ≡ old)
 asks-there first all answers step left old new asked question h same asks is some =
     by_left asked (drop old.given answers) refl (sym same) asks is
   where
     by_left : (o : Option Next) (ys : List StepAnswer) → drop old.given answers ≡ ys → step old.wanted ≡ o
         → question ≡ step_asks o ys → new ≡ passed_by o ys old
-        → (q : Next) × (question ≡ Some q) × (forwarded first all answers ≡ Err q) × (new ≡ old)
+        → (q : Next) × (question ≡ Some q) × (forward_steps first all answers ≡ Err q) × (new ≡ old)
     by_left None ys at so asks is =
         let bad : is_some (let o : Option Next = None in o) ≡ true = sym (ap is_some asks) ∙ some in absurd cc
     by_left (Some q) [] at so asks is =
@@ -156,7 +156,7 @@ asks-there first all answers step left old new asked question h same asks is som
 
 module _ (l : Local) (found : List Found) (answers : List StepAnswer) where
   abbrev AllSteps : Others → List Step → Type 0
-  AllSteps others left = GoesOn (first_wanted l found) (steps l found) answers others.given others.wanted left
+  AllSteps others left = ResumesWith (first_wanted l found) (steps l found) answers others.given others.wanted left
 
   pub offer_passed : (old new : Others) (f : Found) (asked question : Option Next) → is_some question ≡ false
       → drop old.offers found ≡ f ∷ drop (old.offers + 1) found → asked ≡ proxy_step l old.wanted f.offer
@@ -210,7 +210,7 @@ module _ (l : Local) (found : List Found) (answers : List StepAnswer) where
     pub place : IsPlaceInSearch l found answers others
     pub asked : Next
     pub is : question ≡ Some asked
-    pub stops : forwarded (first_wanted l found) (steps l found) answers ≡ Err asked
+    pub stops : forward_steps (first_wanted l found) (steps l found) answers ≡ Err asked
 
   pub offer_asks : (old new : Others) (f : Found) (asked question : Option Next) → is_some question ≡ true
       → drop old.offers found ≡ f ∷ drop (old.offers + 1) found → asked ≡ proxy_step l old.wanted f.offer
@@ -269,7 +269,7 @@ module _ (l : Local) (found : List Found) (answers : List StepAnswer) where
       ends (first_wanted l found) (steps l found) answers others.given others.wanted
       (subst (AllSteps others) none place.left)
 
-behind-none : (r : Reads (List SubAnswer)) → r ≡ behind [] r
+behind-none : (r : AnswersRead (List SubAnswer)) → r ≡ behind [] r
 behind-none (Ok s) = refl
 behind-none (Err q) = refl
 
@@ -280,7 +280,7 @@ begins-by None l found answers = record {
   offers = omega arith;
   links = omega arith;
   given = omega arith;
-  left = λ rest. behind-none (forwarded (first_wanted l found) (steps l found) rest);
+  left = λ rest. behind-none (forward_steps (first_wanted l found) (steps l found) rest);
 }
 begins-by (Some link) l found answers = record { given = omega arith; one = omega arith }
 
@@ -302,10 +302,10 @@ longer_place None l found answers more others h =
       left = λ rest.
           let same : take others.given (answers ++ more) ≡ take others.given answers =
           take-append-le others.given answers more h.given in
-          ap (λ (xs : List StepAnswer). forwarded (first_wanted l found) (steps l found) (xs ++ rest)) same
+          ap (λ (xs : List StepAnswer). forward_steps (first_wanted l found) (steps l found) (xs ++ rest)) same
           ∙ h.left rest
           ∙ sym (ap (λ (xs : List StepAnswer). behind (map sub_answer xs)
-          (forwarded others.wanted (steps_left l found others) rest)) same);
+          (forward_steps others.wanted (steps_left l found others) rest)) same);
     }
 longer_place (Some link) l found answers more others h =
     let longer : length (answers ++ more) ≡ length answers + length more = length-append answers more in
@@ -350,7 +350,7 @@ pub path_asks : (l : Local) (link : LinkRecord) (question : Next) (answers : Lis
     → answers ≡ [] → question ≡ Forward link.target (path_query l)
     → Forwards None (path_step l link ∷ []) answers given (Some question)
 path_asks l link question [] given none same =
-    ap (λ (q : Next). let r : Reads (List SubAnswer) = Err q in r) (sym same)
+    ap (λ (q : Next). let r : AnswersRead (List SubAnswer) = Err q in r) (sym same)
 path_asks l link question (a ∷ answers) given none same = absurd cc
 
 pub path_passes : (l : Local) (link : LinkRecord) (answers rest : List StepAnswer) (a : StepAnswer)

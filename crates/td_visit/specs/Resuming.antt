@@ -9,10 +9,11 @@ use Rattle.td_store.specs.declared.record.LinkRecord.{LinkRecord}
 use Rattle.td_store.specs.declared.record.OfferRecord.{OfferRecord}
 use Rattle.td_value.specs.declared.unions.SpecifiedProps.{SpecifiedProps}
 use Rattle.td_walk.specs.SubQueries.{link_step, proxy_step, wanted_behind}
-use Rattle.td_walk.specs.Told.{Tells, comes_to, made_up_to}
-use Rattle.td_walk.specs.Visits.{Reads, evaluated, matches_all, if_matching, desired_names, is_ordinary}
-use Rattle.td_walk.specs.Visits.{completed, all_completed, sub_answer, Step, less, forwarded, steps, count_ordinary}
-use Rattle.td_walk.specs.Visits.{path_step, gathered, visit_of}
+use Rattle.td_walk.specs.Questions.{AsksOrGives, comes_to, made_up_to}
+use Rattle.td_walk.specs.Visits.{AnswersRead, evaluate_names, matches_all, if_matching, desired_names, is_ordinary}
+use Rattle.td_walk.specs.Visits.{complete_offer, all_completed, sub_answer, Step, less, forward_steps, steps}
+use Rattle.td_walk.specs.Visits.{count_ordinary}
+use Rattle.td_walk.specs.Visits.{path_step, gathered_offers, visit_of}
 use Rattle.td_walk.specs.declared.answer.Next.{Next}
 use Rattle.td_walk.specs.declared.answer.Next.TheVariants.{Done}
 use Rattle.td_walk.specs.declared.answer.StepAnswer.{StepAnswer}
@@ -28,10 +29,11 @@ use Rattle.td_visit.specs.declared.progress.Scan.{Scan}
 -- ---- where a reading of answers stops
 
 -- a candidate of which evaluations were made
-abbrev pub tried_on : Local → OfferRecord → List Evaluation → List StepAnswer → Reads (List Found)
+abbrev pub tried_on : Local → OfferRecord → List Evaluation → List StepAnswer
+    → AnswersRead (List Found)
 tried_on l o made answers =
     if matches_all o.proxy then Ok (record { offer = o; made = made } ∷ [], answers)
-    else evaluated o.properties made (names_asked l.constraint l.preference) answers
+    else evaluate_names o.properties made (names_asked l.constraint l.preference) answers
     >>= λ r. Ok (if_matching l o r.0, r.1)
 
 -- the evaluations of the candidate that is tried: none, once it was
@@ -42,7 +44,7 @@ made_trying l o made answers =
 
 -- the candidates that are left, where evaluations of the first were made
 abbrev pub searched_on : Local → List OfferRecord → List Found → List Evaluation → List StepAnswer →
-    Reads (List Found)
+    AnswersRead (List Found)
 searched_on l [] found made answers = Ok (found, answers)
 searched_on l (o ∷ os) found made answers =
     if nat_le l.effective.match_card (length found) then Ok (found, answers)
@@ -73,7 +75,7 @@ abbrev pub completed_up_to : SpecifiedProps → (before : List Found) → List F
     → Completion
 completed_up_to desired before [] answers = record { waiting = []; complete = before }
 completed_up_to desired before (f ∷ fs) answers =
-    comes_to (completed desired f.offer f.made answers)
+    comes_to (complete_offer desired f.offer f.made answers)
     (λ r. completed_up_to desired (before ++ record { offer = f.offer; made = r.0 } ∷ []) fs r.1)
     (record {
       waiting = record { offer = f.offer; made = made_completing desired f.offer f.made answers }
@@ -106,15 +108,15 @@ abbrev pub given_by : (count : ℕ) → List StepAnswer → List SubAnswer
 given_by count answers = map sub_answer (take count answers)
 
 -- what is read behind what was given
-abbrev pub behind : List SubAnswer → Reads (List SubAnswer) → Reads (List SubAnswer)
+abbrev pub behind : List SubAnswer → AnswersRead (List SubAnswer) → AnswersRead (List SubAnswer)
 behind given r = r >>= λ s. Ok (given ++ s.0, s.1)
 
 -- So many of the steps have their answers: whatever comes behind these, from there the steps that are left are taken.
-abbrev pub GoesOn : (first : Option ℕ) → (all : List Step) → List StepAnswer → (given : ℕ)
+abbrev pub ResumesWith : (first : Option ℕ) → (all : List Step) → List StepAnswer → (given : ℕ)
     → (wanted : Option ℕ) → (left : List Step) → Type 0
-GoesOn first all answers given wanted left =
-    (rest : List StepAnswer) → forwarded first all (take given answers ++ rest)
-    ≡ behind (given_by given answers) (forwarded wanted left rest)
+ResumesWith first all answers given wanted left =
+    (rest : List StepAnswer) → forward_steps first all (take given answers ++ rest)
+    ≡ behind (given_by given answers) (forward_steps wanted left rest)
 
 -- So far a search has come.
 pub record IsPlaceInSearch (l : Local) (found : List Found) (answers : List StepAnswer)
@@ -122,7 +124,7 @@ pub record IsPlaceInSearch (l : Local) (found : List Found) (answers : List Step
   pub offers : others.offers ≤ length found
   pub links : others.links ≤ length l.links
   pub given : others.given ≤ length answers
-  pub left : GoesOn (first_wanted l found) (steps l found) answers others.given others.wanted
+  pub left : ResumesWith (first_wanted l found) (steps l found) answers others.given others.wanted
       (steps_left l found others)
 
 -- along a path there is one question
@@ -176,7 +178,8 @@ wanted_by (Some link) l found = None
 abbrev pub Forwards : (first : Option ℕ) → List Step → List StepAnswer → (given : ℕ) → Option Next
     → Type 0
 Forwards first all answers given question =
-    Tells (forwarded first all answers) question (given_by given answers) (drop given answers)
+    AsksOrGives (forward_steps first all answers) question (given_by given answers)
+    (drop given answers)
 
 abbrev pub ForwardsBy : Option LinkRecord → Local → List Found → List StepAnswer → (given : ℕ)
     → Option Next → Type 0
@@ -186,28 +189,29 @@ ForwardsBy path l found answers given question =
 -- the offers come to a question that has no answer, or all are passed by
 abbrev pub CallsTo : Local → List Found → List StepAnswer → Others → Option Next → Type 0
 CallsTo l found answers others None = others.offers ≡ length found
-CallsTo l found answers others (Some question) = forwarded (first_wanted l found)
+CallsTo l found answers others (Some question) = forward_steps (first_wanted l found)
     (steps l found) answers ≡ Err question
 
 -- once the candidates were searched
 abbrev pub completed_on : Option LinkRecord → Local → (complete : List Found)
-    → (waiting : List Found) → List StepAnswer → Reads Gathered
+    → (waiting : List Found) → List StepAnswer → AnswersRead Gathered
 completed_on path l complete waiting answers =
     all_completed l.query.desired complete waiting answers
-    >>= λ r. gathered r.0 r.1 (wanted_by path l r.0) (steps_by path l r.0)
+    >>= λ r. gathered_offers r.0 r.1 (wanted_by path l r.0) (steps_by path l r.0)
 
-abbrev pub searching_on : Option LinkRecord → Local → Scan → List StepAnswer → Reads Gathered
+abbrev pub searching_on : Option LinkRecord → Local → Scan → List StepAnswer → AnswersRead Gathered
 searching_on path l s answers =
     searched_on l (drop s.tried l.candidates) s.found s.made answers >>= λ r.
     completed_on path l [] r.0 r.1
 
-abbrev pub resumed_by : Option LinkRecord → Local → Progress → List StepAnswer → Reads Gathered
+abbrev pub resumed_by : Option LinkRecord → Local → Progress → List StepAnswer
+    → AnswersRead Gathered
 resumed_by path l p answers =
     if p.searched then completed_on path l p.completion.complete p.completion.waiting answers
     else searching_on path l p.scan answers
 
-unfoldable pub resumed : Local → Progress → List StepAnswer → Reads Gathered
-resumed l p answers = resumed_by l.path l p answers
+unfoldable pub resume_visit : Local → Progress → List StepAnswer → AnswersRead Gathered
+resume_visit l p answers = resumed_by l.path l p answers
 
 -- nothing was read yet, and with a path nothing is searched
 abbrev pub start : (along : Bool) → Progress
@@ -227,11 +231,11 @@ pub record AsksOthers (l : Local) (answers : List StepAnswer) (p : Progress) : T
   pub place : IsPlace l p.completion.complete (drop p.read answers) p.others
 
 -- This is how far the visit has come with the first answers, whatever comes behind them.
-pub record Stands (l : Local) (answers : List StepAnswer) (p : Progress) : Type 0 where
+pub record HasProgress (l : Local) (answers : List StepAnswer) (p : Progress) : Type 0 where
   pub within : p.read ≤ length answers
   pub tries : p.scan.tried ≤ length l.candidates
   pub goes_on : (rest : List StepAnswer) → visit_of l (take p.read answers ++ rest)
-      ≡ resumed l p rest
+      ≡ resume_visit l p rest
   pub asks : p.completed ≡ true → AsksOthers l answers p
 
 -- ---- the end
@@ -240,8 +244,8 @@ abbrev pub answers_left : List StepAnswer → Progress → List StepAnswer
 answers_left answers p = drop p.read answers
 
 -- the visit is at its end, and this is what it comes to
-abbrev pub gathering : List StepAnswer → Progress → Gathered
-gathering answers p =
+abbrev pub visit_end : List StepAnswer → Progress → Gathered
+visit_end answers p =
     record {
       found = p.completion.complete;
       given = given_by p.others.given (answers_left answers p);
@@ -250,7 +254,7 @@ gathering answers p =
 pub record IsEnd (l : Local) (answers : List StepAnswer) (p : Progress) : Type 0 where
   pub within : p.read + p.others.given ≤ length answers
   pub after : List StepAnswer
-  pub comes : visit_of l answers ≡ Ok (gathering answers p, after)
+  pub comes : visit_of l answers ≡ Ok (visit_end answers p, after)
 
 -- ---- where a visit comes to
 

@@ -4,14 +4,14 @@ use Rattle.std.specs.Coded.{Coded, code_by, coded×, coded_list}
 use Rattle.td_store.specs.declared.local.Local.{Local}
 use Rattle.td_walk.specs.declared.answer.StepAnswer.{StepAnswer}
 
-pub record Standing : Type 0 where
+pub record FrameState : Type 0 where
   -- what the trader knew when the query came
   pub local : Local
   -- and the answers that there are
   pub answers : List StepAnswer
 
 -- it is stored as the pair of its fields
-abbrev pub standing_code : Coded Local → Coded StepAnswer → Coded Standing
+abbrev pub standing_code : Coded Local → Coded StepAnswer → Coded FrameState
 standing_code of_local of_answer =
     code_by
     (Local × List StepAnswer)

@@ -1,12 +1,12 @@
 //! How far a visit comes with the answers that there are. What was done before isn't done again.
 
 ghost use Rattle.std.specs.Prelude.{◌≡◌, ◌-◌, [], true, unwrap_or, IfOk, OnOk};
-ghost use Rattle.td_visit.specs.Resuming.{start, asks_first, Stands, SearchesTo, CompletesTo, ComesTo, IsEnd};
+ghost use Rattle.td_visit.specs.Resuming.{start, asks_first, HasProgress, SearchesTo, CompletesTo, ComesTo, IsEnd};
 ghost use Rattle.td_walk.specs.Visits.{next_of};
 ghost use Rattle.td_walk.specs.declared.answer.Next.TheVariants.{Done};
 
-use crate::asking::{ask, asks_first, none_asked};
 use crate::progress::{Completion, Progress, Scan};
+use crate::questions::{ask, asks_first, none_asked};
 use crate::queue::Queue;
 use crate::searching::{complete_all, search};
 use std::alloc::Global;
@@ -39,7 +39,7 @@ fn start(alloc: Global, along: bool) -> Progress
 /// A visit at its beginning.
 #[tactic(auto, using(crate::proofs::Progressed::starts))]
 pub(crate) fn start_visit(alloc: Global, local: &Local, answers: &[StepAnswer]) -> Progress
-    ensures { Stands local.now answers.now result }
+    ensures { HasProgress local.now answers.now result }
 {
     start(alloc, local.path.is_some())
 }
@@ -79,8 +79,8 @@ fn search_on(
     answers: &[StepAnswer],
     progress: &mut Progress,
 ) -> Result<Option<Next>, Memory>
-    requires { Stands local.now answers.now progress.old }
-    ensures stands { OnOk result (Stands local.now answers.now progress.new) }
+    requires { HasProgress local.now answers.now progress.old }
+    ensures stands { OnOk result (HasProgress local.now answers.now progress.new) }
     ensures comes { IfOk result
         (λ question. SearchesTo local.now answers.now progress.new question) }
 {
@@ -126,9 +126,9 @@ fn complete_on(
     answers: &[StepAnswer],
     progress: &mut Progress,
 ) -> Result<Option<Next>, Memory>
-    requires stands { Stands local.now answers.now progress.old }
+    requires stands { HasProgress local.now answers.now progress.old }
     requires searched { progress.old.searched ≡ true }
-    ensures stands { OnOk result (Stands local.now answers.now progress.new) }
+    ensures stands { OnOk result (HasProgress local.now answers.now progress.new) }
     ensures comes { IfOk result
         (λ question. CompletesTo local.now answers.now progress.new question) }
 {
@@ -157,9 +157,9 @@ fn ask_on(
     answers: &[StepAnswer],
     progress: &mut Progress,
 ) -> Result<Option<Next>, Memory>
-    requires stands { Stands local.now answers.now progress.old }
+    requires stands { HasProgress local.now answers.now progress.old }
     requires completed { CompletesTo local.now answers.now progress.old None }
-    ensures stands { OnOk result (Stands local.now answers.now progress.new) }
+    ensures stands { OnOk result (HasProgress local.now answers.now progress.new) }
     ensures comes { IfOk result (λ question. ComesTo local.now answers.now progress.new question) }
 {
     let (_read, behind) = answers.split_at(progress.read);
@@ -179,8 +179,8 @@ fn advance(
     answers: &[StepAnswer],
     progress: &mut Progress,
 ) -> Result<Option<Next>, Memory>
-    requires { Stands local.now answers.now progress.old }
-    ensures stands { OnOk result (Stands local.now answers.now progress.new) }
+    requires { HasProgress local.now answers.now progress.old }
+    ensures stands { OnOk result (HasProgress local.now answers.now progress.new) }
     ensures comes { IfOk result (λ question. ComesTo local.now answers.now progress.new question) }
 {
     let question = search_on(alloc, local, answers, progress)?;
@@ -203,11 +203,11 @@ fn or_done(question: Option<Next>) -> Next
     }
 }
 
-/// The question that comes after these answers. After want of memory the visit stands at its beginning again.
+/// The question that comes after these answers. After running out of memory the visit stands at its beginning again.
 ///
 /// # Errors
 ///
-/// `Memory` for want of memory alone.
+/// `Memory` only when out of memory.
 #[tactic(auto, using(crate::proofs::Progressed::next_asked))]
 pub(crate) fn next_question(
     alloc: Global,
@@ -215,8 +215,8 @@ pub(crate) fn next_question(
     answers: &[StepAnswer],
     progress: &mut Progress,
 ) -> Result<Next, Memory>
-    requires { Stands local.now answers.now progress.old }
-    ensures stands { Stands local.now answers.now progress.new }
+    requires { HasProgress local.now answers.now progress.old }
+    ensures stands { HasProgress local.now answers.now progress.new }
     ensures question { IfOk result (λ question. question ≡ next_of local.now answers.now) }
 {
     match advance(alloc, local, answers, progress) {
@@ -232,7 +232,7 @@ pub(crate) fn next_question(
 ///
 /// # Errors
 ///
-/// `Memory` for want of memory alone.
+/// `Memory` only when out of memory.
 #[tactic(auto, using(crate::proofs::Progressed::never_asked))]
 pub(crate) fn go_to_end(
     alloc: Global,
@@ -240,7 +240,7 @@ pub(crate) fn go_to_end(
     answers: &[StepAnswer],
     progress: &mut Progress,
 ) -> Result<(), Memory>
-    requires stands { Stands local.now answers.now progress.old }
+    requires stands { HasProgress local.now answers.now progress.old }
     requires ended { next_of local.now answers.now ≡ Done }
     ensures { OnOk result (IsEnd local.now answers.now progress.new) }
 {

@@ -2,7 +2,7 @@
 
 ghost use Rattle.std.specs.Prelude.{◌≡◌, ℕ, ◌+◌, ◌≤◌, length, map, take, drop, IfOk, OnOk, OnErr};
 ghost use Rattle.td_walk.specs.Answers.{IsAnswer, HasDrawn};
-ghost use Rattle.td_visit.specs.Resuming.{IsEnd, Stands, gathering};
+ghost use Rattle.td_visit.specs.Resuming.{IsEnd, HasProgress, visit_end};
 ghost use Rattle.td_walk.specs.Visits.{next_of, sub_answer};
 ghost use Rattle.td_walk.specs.declared.answer.Next.TheVariants.{Done};
 
@@ -49,13 +49,13 @@ fn sub_answers(
 }
 
 /// What the visit comes to before it is ranked. No offer is copied.
-fn gathering(
+fn visit_end(
     alloc: Global,
     answers: List<StepAnswer>,
     progress: Progress,
 ) -> Result<Gathered, Memory>
     requires { progress.read + progress.others.given ≤ length answers }
-    ensures { IfOk result (λ gathered. gathered ≡ gathering answers progress) }
+    ensures { IfOk result (λ gathered. gathered ≡ visit_end answers progress) }
 {
     let given = sub_answers(alloc, answers, progress.read, progress.others.given)?;
     let completion = progress.completion;
@@ -69,7 +69,7 @@ fn gathering(
 ///
 /// # Errors
 ///
-/// `Memory` for want of memory alone; no word was then drawn.
+/// `Memory` only when out of memory; no word was then drawn.
 #[tactic(auto, using(crate::proofs::Progressed::end_steps))]
 fn finish<W: Words>(
     alloc: Global,
@@ -85,7 +85,7 @@ fn finish<W: Words>(
     ensures seeding { W.last_seeding words.new ≡ W.last_seeding words.old }
     ensures same { W.same words.old words.new }
 {
-    let gathered = gathering(alloc, answers, progress)?;
+    let gathered = visit_end(alloc, answers, progress)?;
     answer_of(alloc, local, gathered, words)
 }
 
@@ -93,7 +93,7 @@ fn finish<W: Words>(
 ///
 /// # Errors
 ///
-/// `Memory` for want of memory alone; no word was then drawn.
+/// `Memory` only when out of memory; no word was then drawn.
 pub(crate) fn end_visit<W: Words>(
     alloc: Global,
     local: &Local,
@@ -101,7 +101,7 @@ pub(crate) fn end_visit<W: Words>(
     progress: Progress,
     words: &mut W,
 ) -> Result<SubAnswer, Memory>
-    requires stands { Stands local.now answers progress }
+    requires stands { HasProgress local.now answers progress }
     requires done { next_of local.now answers ≡ Done }
     ensures answer { IfOk result (λ a. IsAnswer local.now answers (W.word words.old) a) }
     ensures drawn { OnOk result (HasDrawn local.now answers (W.word words.old) (W.word words.new)) }

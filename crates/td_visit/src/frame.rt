@@ -31,17 +31,17 @@ impl Drop for Frame {
 impl Model for Frame {
     ghost use Rattle.td_store.specs.contracts.local.Local as known;
     ghost use Rattle.td_walk.specs.contracts.answer.StepAnswer as answer;
-    ghost use Rattle.td_visit.specs.Standing.{Standing, standing_code};
+    ghost use Rattle.td_visit.specs.Standing.{FrameState, standing_code};
 
-    ghost Value = { Standing };
+    ghost Value = { FrameState };
 
     ghost coded = { standing_code known.the_row.coded answer.the_row.coded };
 
-    ghost use Rattle.td_visit.specs.Resuming.{Stands};
+    ghost use Rattle.td_visit.specs.Resuming.{HasProgress};
 
     ghost view = { λ f. record { local = f.local; answers = f.answers } };
 
-    ghost invariant = { λ f. Stands f.local f.answers f.progress };
+    ghost invariant = { λ f. HasProgress f.local f.answers f.progress };
 }
 
 impl Frame {
@@ -54,7 +54,7 @@ impl Frame {
     ///
     /// # Errors
     ///
-    /// `Memory` for want of memory alone.
+    /// `Memory` only when out of memory.
     pub fn new(alloc: Global, local: Boxed<Local>) -> Result<Frame, Memory>
         ensures { IfOk result (λ f. f ≡ record { local = local; answers = [] }) }
     {
@@ -71,7 +71,7 @@ impl Frame {
     ///
     /// # Errors
     ///
-    /// `Memory` for want of memory alone.
+    /// `Memory` only when out of memory.
     pub fn next(&mut self, alloc: Global) -> Result<Next, Memory>
         ensures question { IfOk result (λ q. q ≡ next_of self.old.local self.old.answers) }
         ensures kept { self.new ≡ self.old }
@@ -102,7 +102,7 @@ impl Frame {
     ///
     /// # Errors
     ///
-    /// `Memory` for want of memory alone; the answer is then dropped.
+    /// `Memory` only when out of memory; the answer is then dropped.
     #[tactic(auto, using(crate::proofs::Progressed::take_steps))]
     pub fn take(&mut self, answer: StepAnswer) -> Result<(), Memory>
         ensures ok { OnOk result
@@ -121,7 +121,7 @@ impl Frame {
     ///
     /// # Errors
     ///
-    /// `Memory` for want of memory alone; no word was then drawn.
+    /// `Memory` only when out of memory; no word was then drawn.
     pub fn finish<W: Words>(self, alloc: Global, words: &mut W) -> Result<SubAnswer, Memory>
         requires { next_of self.local self.answers ≡ Done }
         ensures answer { IfOk result (λ a. IsAnswer self.local self.answers (W.word words.old) a) }

@@ -3,7 +3,7 @@
 ghost use Rattle.std.specs.Prelude.{◌≡◌, ℕ, ◌++◌, ◌+◌, take, IfOk, OnOk, OnErr};
 ghost use Rattle.std.specs.List.{flat_map, list_any};
 ghost use Rattle.td_cdr.specs.Seen.{is_among};
-ghost use Rattle.td_walk.specs.Answers.{offer_of, own_offers, joined, is_limit, limit, limits_applied};
+ghost use Rattle.td_walk.specs.Answers.{offer_of, own_offers, joined_offers, is_limit, limit, limits_applied};
 ghost use Rattle.td_walk.specs.Answers.{drawn_by, IsRankedAnswer};
 ghost use Rattle.td_store.specs.Candidates.{has_dynamic};
 ghost use Rattle.td_walk.specs.Resolving.{resolved};
@@ -80,7 +80,7 @@ fn add_given(offers: &mut Vec<Offer>, given: List<SubAnswer>) -> Result<(), Memo
 }
 
 fn joined(alloc: Global, gathered: Gathered) -> Result<List<Offer>, Memory>
-    ensures { IfOk result (λ offers. offers ≡ joined gathered) }
+    ensures { IfOk result (λ offers. offers ≡ joined_offers gathered) }
 {
     let Gathered { found, given } = gathered;
     let mut offers = Vec::new(alloc);
@@ -161,7 +161,7 @@ fn cut(offers: List<Offer>, most: u32) -> List<Offer>
 ///
 /// # Errors
 ///
-/// `Memory` for want of memory alone; no word was then drawn.
+/// `Memory` only when out of memory; no word was then drawn.
 pub(crate) fn answer_of<W: Words>(
     alloc: Global,
     local: &Local,

@@ -2,11 +2,11 @@
 #![tactic(auto)]
 
 mod advancing;
-mod asking;
 mod ending;
 mod frame;
 mod joining;
 mod progress;
+mod questions;
 mod queue;
 mod recipe;
 mod searching;

@@ -89,7 +89,7 @@ impl<T: Drop> Queue<T> {
     ///
     /// # Errors
     ///
-    /// `Memory` for want of memory alone; the element is then dropped.
+    /// `Memory` only when out of memory; the element is then dropped.
     #[tactic(auto, using(crate::proofs::Reversed::last_first))]
     pub(crate) fn push_front(&mut self, first: T) -> Result<(), Memory>
         ensures { OnOk result (self.new ≡ first ∷ self.old) }

@@ -2,7 +2,7 @@
 
 ghost use Rattle.std.specs.Prelude.{◌≡◌, option_map, IfOk};
 ghost use Rattle.td_lang.specs.Recipes.{recipe_of};
-ghost use Rattle.td_walk.specs.SubQueries.{expanded};
+ghost use Rattle.td_walk.specs.SubQueries.{expansion_of};
 
 use std::alloc::Global;
 use td_cdr::{Memory, Text};
@@ -19,7 +19,7 @@ fn recipe_of(alloc: Global, text: &[u8]) -> Result<Option<Recipe>, Memory>
         Ok(recipe) => Ok(Some(recipe)),
         Err(LangFault::TooLong) => Ok(None),
         Err(LangFault::Syntax(_)) => Ok(None),
-        // No other fault comes of a recipe but want of memory.
+        // No other fault comes of a recipe but running out of memory.
         Err(_) => Err(Memory),
     }
 }
@@ -28,15 +28,15 @@ fn recipe_of(alloc: Global, text: &[u8]) -> Result<Option<Recipe>, Memory>
 ///
 /// # Errors
 ///
-/// `Memory` for want of memory alone.
-#[tactic(auto, unfolding(td_walk::specs::SubQueries::expanded))]
+/// `Memory` only when out of memory.
+#[tactic(auto, unfolding(td_walk::specs::SubQueries::expansion_of))]
 pub(crate) fn expanded(
     alloc: Global,
     constraint: &Text,
     offer: &FoundOffer,
     part: &ProxyPart,
 ) -> Result<Option<Text>, Memory>
-    ensures { IfOk result (λ text. text ≡ expanded constraint.now offer.now part.now) }
+    ensures { IfOk result (λ text. text ≡ expansion_of constraint.now offer.now part.now) }
 {
     match recipe_of(alloc, part.recipe.as_slice())? {
         None => Ok(None),

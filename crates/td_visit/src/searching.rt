@@ -3,13 +3,13 @@
 
 ghost use Rattle.std.specs.Prelude.{◌≡◌, ◌≤◌, ◌++◌, [], ◌∷◌, drop, length, IfOk, OnOk};
 ghost use Rattle.td_store.specs.Candidates.{has_dynamic};
-ghost use Rattle.td_walk.specs.Told.{Tells, TellsMore, Kept, made_up_to};
+ghost use Rattle.td_walk.specs.Questions.{AsksOrGives, TellsMore, UnchangedIfAsking, made_up_to};
 ghost use Rattle.td_walk.specs.Resolving.{resolved};
 ghost use Rattle.td_visit.specs.Resuming.{tried_on, made_trying, searched_on, searched_up_to, made_completing};
 ghost use Rattle.td_visit.specs.Resuming.{completed_up_to};
-ghost use Rattle.td_walk.specs.Visits.{matches_all, if_matching, completed, all_completed, evaluated};
+ghost use Rattle.td_walk.specs.Visits.{matches_all, if_matching, complete_offer, all_completed, evaluate_names};
 ghost use Rattle.td_eval.specs.Mentioning.{names_asked};
-ghost use Rattle.td_eval.specs.Values.{matching};
+ghost use Rattle.td_eval.specs.Values.{matches_constraint};
 
 use crate::progress::{Completion, Scan};
 use crate::queue::Queue;
@@ -56,7 +56,7 @@ fn is_matching(
 ) -> Result<bool, Memory>
     requires { dynamic ≡ has_dynamic properties.now }
     ensures { IfOk result (λ holds. holds
-        ≡ matching (resolved made.now properties.now) constraint.now) }
+        ≡ matches_constraint (resolved made.now properties.now) constraint.now) }
 {
     if !dynamic {
         return matches(constraint, properties);
@@ -106,8 +106,8 @@ fn add_matching(
     }
 }
 
-/// Evaluates the dynamic properties among those of these names, as far as there are answers. No name is looked for where
-/// no property is dynamic.
+/// Evaluates the dynamic properties among those of these names, as far as there are answers. No name is looked for
+/// where no property is dynamic.
 #[tactic(auto, using(crate::proofs::Resolved::no_evaluations))]
 fn evaluate_dynamic(
     alloc: Global,
@@ -118,8 +118,9 @@ fn evaluate_dynamic(
     left: &mut Left<'_>,
 ) -> Result<Option<Next>, Memory>
     requires { dynamic ≡ has_dynamic properties.now }
-    ensures told { IfOk result (λ question.
-        Tells (evaluated properties.now made.old names.now left.old.answers.now) question made.new
+    ensures content { IfOk result (λ question.
+        AsksOrGives (evaluate_names properties.now made.old names.now left.old.answers.now) question
+        made.new
         left.new.answers.now) }
     ensures stopped { OnOk result
         (made.new ≡ made_up_to properties.now made.old names.now left.old.answers.now) }
@@ -142,10 +143,10 @@ fn try_candidate(
     left: &mut Left<'_>,
 ) -> Result<Option<Next>, Memory>
     requires { names.now ≡ names_asked local.now.constraint local.now.preference }
-    ensures told { IfOk result (λ question.
+    ensures content { IfOk result (λ question.
         TellsMore (tried_on local.now offer.now made.old left.old.answers.now)
         question found.old found.new left.new.answers.now) }
-    ensures kept { IfOk result (λ question. Kept question found.old found.new) }
+    ensures kept { IfOk result (λ question. UnchangedIfAsking question found.old found.new) }
     ensures stopped { OnOk result
         (made.new ≡ made_trying local.now offer.now made.old left.old.answers.now) }
 {
@@ -176,7 +177,7 @@ fn candidates_of(local: &Local) -> &[OfferRecord]
 ///
 /// # Errors
 ///
-/// `Memory` for want of memory alone.
+/// `Memory` only when out of memory.
 pub(crate) fn search(
     alloc: Global,
     local: &Local,
@@ -184,8 +185,8 @@ pub(crate) fn search(
     left: &mut Left<'_>,
 ) -> Result<Option<Next>, Memory>
     requires { scan.old.tried ≤ length local.now.candidates }
-    ensures told { IfOk result (λ question.
-        Tells (searched_on local.now (drop scan.old.tried local.now.candidates)
+    ensures content { IfOk result (λ question.
+        AsksOrGives (searched_on local.now (drop scan.old.tried local.now.candidates)
         scan.old.found scan.old.made left.old.answers.now)
         question scan.new.found left.new.answers.now) }
     ensures stopped { OnOk result
@@ -224,8 +225,8 @@ fn complete(
     made: &mut List<Evaluation>,
     left: &mut Left<'_>,
 ) -> Result<Option<Next>, Memory>
-    ensures told { IfOk result (λ question.
-        Tells (completed desired.now offer.now made.old left.old.answers.now)
+    ensures content { IfOk result (λ question.
+        AsksOrGives (complete_offer desired.now offer.now made.old left.old.answers.now)
         question made.new left.new.answers.now) }
     ensures stopped { OnOk result
         (made.new ≡ made_completing desired.now offer.now made.old left.old.answers.now) }
@@ -275,8 +276,8 @@ fn complete_each(
     completion: &mut Completion,
     left: &mut Left<'_>,
 ) -> Result<Option<Next>, Memory>
-    ensures told { IfOk result (λ question.
-        Tells (all_completed desired.now completion.old.complete completion.old.waiting
+    ensures content { IfOk result (λ question.
+        AsksOrGives (all_completed desired.now completion.old.complete completion.old.waiting
         left.old.answers.now) question completion.new.complete left.new.answers.now) }
     ensures stopped { OnOk result
         (completion.new ≡ completed_up_to desired.now completion.old.complete completion.old.waiting
@@ -300,7 +301,7 @@ fn complete_each(
 ///
 /// # Errors
 ///
-/// `Memory` for want of memory alone.
+/// `Memory` only when out of memory.
 #[tactic(auto, using(crate::proofs::Undesired::undesired))]
 pub(crate) fn complete_all(
     alloc: Global,
@@ -308,8 +309,8 @@ pub(crate) fn complete_all(
     completion: &mut Completion,
     left: &mut Left<'_>,
 ) -> Result<Option<Next>, Memory>
-    ensures told { IfOk result (λ question.
-        Tells (all_completed desired.now completion.old.complete completion.old.waiting
+    ensures content { IfOk result (λ question.
+        AsksOrGives (all_completed desired.now completion.old.complete completion.old.waiting
         left.old.answers.now) question completion.new.complete left.new.answers.now) }
     ensures stopped { OnOk result
         (completion.new ≡ completed_up_to desired.now completion.old.complete completion.old.waiting

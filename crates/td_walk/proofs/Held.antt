@@ -1,13 +1,13 @@
 -- A value that is stated is there.
 use Rattle.std.proofs.Common.{◌≡◌, Bool, true, false, Option, Some, None, Ok, Err, refl, if◌then◌else◌}
-use Rattle.td_codes.specs.Same.{same}
+use Rattle.td_typecode.specs.Same.{same}
 use Rattle.td_policy.specs.Stated.{stated_value, valid}
-use Rattle.td_policy.specs.Values.{Kind}
+use Rattle.td_policy.specs.Values.{PolicyKind}
 use Rattle.td_policy.specs.declared.fault.PolicyFault.TheVariants as fault
 use Rattle.td_value.specs.declared.structures.Policy.{Policy}
 use Rattle.td_walk.specs.Passing.{value_in}
 
-pub held : {A : Type 0} (kind : Kind A) (p : Policy) (x : Option A) → stated_value kind p ≡ Ok x
+pub held : {A : Type 0} (kind : PolicyKind A) (p : Policy) (x : Option A) → stated_value kind p ≡ Ok x
     → (y : A) × (x ≡ Some y) × (value_in kind p ≡ Some y)
 held {A} kind p x e = by_type (same p.value.code kind.code) (kind.value_of p.value.value) e
   where

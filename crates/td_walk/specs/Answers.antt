@@ -7,7 +7,7 @@ use Rattle.td_eval.specs.Ranking.{IsRanked, draw_count}
 use Rattle.td_store.specs.declared.local.Local.{Local}
 use Rattle.td_value.specs.declared.structures.Offer.{Offer}
 use Rattle.td_walk.specs.Resolving.{resolved}
-use Rattle.td_walk.specs.Visits.{Reads, is_ordinary, visit_of}
+use Rattle.td_walk.specs.Visits.{AnswersRead, is_ordinary, visit_of}
 use Rattle.td_walk.specs.declared.answer.StepAnswer.{StepAnswer}
 use Rattle.td_walk.specs.declared.answer.SubAnswer.{SubAnswer}
 use Rattle.td_walk.specs.declared.found.Found.{Found}
@@ -24,8 +24,8 @@ abbrev pub own_offers : List Found → List Offer
 own_offers found = map offer_of (filter (λ f. is_ordinary f.offer) found)
 
 -- and then those of the other traders in the order of asking
-abbrev pub joined : Gathered → List Offer
-joined g = own_offers g.found ++ flat_map (λ a. a.offers) g.given
+abbrev pub joined_offers : Gathered → List Offer
+joined_offers g = own_offers g.found ++ flat_map (λ a. a.offers) g.given
 
 -- the policy is stated above this trader's maximum, or another trader names it
 abbrev pub is_limit : (over : List (List ℕ)) → List SubAnswer → (name : List ℕ) → Bool
@@ -45,16 +45,16 @@ limits_applied over given =
 
 -- how many words the ranking draws
 abbrev pub drawn_by : Local → Gathered → ℕ
-drawn_by l g = draw_count l.preference (length (joined g))
+drawn_by l g = draw_count l.preference (length (joined_offers g))
 
 -- ranked by these words, and cut
 pub record IsRankedAnswer (l : Local) (g : Gathered) (word : ℕ → ℕ) (a : SubAnswer) : Type 0 where
   pub ranked : List Offer
-  pub in_order : IsRanked l.preference word (joined g) ranked
+  pub in_order : IsRanked l.preference word (joined_offers g) ranked
   pub cut : a.offers ≡ take l.effective.return_card ranked
   pub limits : a.limits ≡ limits_applied l.effective.over g.given
 
-abbrev pub AnswersGathered : Local → Reads Gathered → (word : ℕ → ℕ) → SubAnswer → Type 0
+abbrev pub AnswersGathered : Local → AnswersRead Gathered → (word : ℕ → ℕ) → SubAnswer → Type 0
 AnswersGathered l (Ok r) word a = IsRankedAnswer l r.0 word a
 AnswersGathered l (Err question) word a = ⊥
 
@@ -62,7 +62,7 @@ AnswersGathered l (Err question) word a = ⊥
 unfoldable pub IsAnswer : Local → List StepAnswer → (word : ℕ → ℕ) → SubAnswer → Type 0
 IsAnswer l answers word a = AnswersGathered l (visit_of l answers) word a
 
-abbrev pub DrawsGathered : Local → Reads Gathered → (before after : ℕ → ℕ) → Type 0
+abbrev pub DrawsGathered : Local → AnswersRead Gathered → (before after : ℕ → ℕ) → Type 0
 DrawsGathered l (Ok r) before after = (k : ℕ) → after k ≡ before (k + drawn_by l r.0)
 DrawsGathered l (Err question) before after = ⊥
 

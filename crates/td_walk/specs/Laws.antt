@@ -9,7 +9,7 @@ use Rattle.td_policy.specs.declared.stated.Stated.{Stated}
 use Rattle.td_value.specs.declared.enumerations.FollowOption.TheVariants.{LocalOnly, IfNoLocal, Always}
 use Rattle.td_value.specs.declared.structures.Policy.{Policy}
 use Rattle.td_walk.specs.Passing.{hop_policy, follow_policy, identifier_policy, start_policy, card_policy}
-use Rattle.td_walk.specs.Passing.{replaced, along_path}
+use Rattle.td_walk.specs.Passing.{with_search_policies, along_path}
 use Rattle.td_walk.specs.Passing.{with_all_passed}
 use Rattle.td_walk.specs.SubQueries.{lets_follow}
 
@@ -26,22 +26,25 @@ proxies_used = policy truth (codes "use_proxy_offers") true
 
 pub record WorkedPassing : Type 0 where
   -- ten hops at most, 99 stated: nine are left, and the rule that is passed on replaces the stated one
-  pub over_a_link : replaced 10 (Some IfNoLocal)
+  pub over_a_link : with_search_policies 10 (Some IfNoLocal)
       (Some identifier) None (hop_policy 99 ∷ follow_policy Always ∷ [])
       ≡ hop_policy 9 ∷ follow_policy IfNoLocal ∷ identifier_policy identifier ∷ []
   -- what isn't stated is added at the end, and a start elsewhere is taken out
-  pub added : replaced 1 (Some Always) (Some identifier) None (cards ∷ start_policy (codes "b" ∷ [])
+  pub added : with_search_policies 1 (Some Always) (Some identifier) None
+      (cards ∷ start_policy (codes "b" ∷ [])
       ∷ []) ≡ cards ∷ hop_policy 0 ∷ follow_policy Always ∷ identifier_policy identifier ∷ []
   -- the importer's identifier is replaced by the search's
-  pub renamed : replaced 1 None (Some identifier) None (identifier_policy (codes "p") ∷ [])
+  pub renamed : with_search_policies 1 None (Some identifier) None (identifier_policy (codes "p")
+      ∷ [])
       ≡ identifier_policy identifier ∷ hop_policy 0 ∷ []
   -- three offers are still wanted: that is put at the end, or in the place of how many were asked for
-  pub wanted : replaced 1 None (Some identifier) (Some 3) (cards ∷ [])
+  pub wanted : with_search_policies 1 None (Some identifier) (Some 3) (cards ∷ [])
       ≡ cards ∷ hop_policy 0 ∷ identifier_policy identifier ∷ card_policy 3 ∷ []
-  pub fewer_wanted : replaced 1 None (Some identifier) (Some 3) (card_policy 9 ∷ cards ∷ [])
+  pub fewer_wanted : with_search_policies 1 None (Some identifier) (Some 3) (card_policy 9 ∷ cards
+      ∷ [])
       ≡ card_policy 3 ∷ cards ∷ hop_policy 0 ∷ identifier_policy identifier ∷ []
   -- and where the number isn't limited, as many as were asked for
-  pub as_stated : replaced 1 None (Some identifier) None (card_policy 9 ∷ [])
+  pub as_stated : with_search_policies 1 None (Some identifier) None (card_policy 9 ∷ [])
       ≡ card_policy 9 ∷ hop_policy 0 ∷ identifier_policy identifier ∷ []
   -- along a path of two names, and then of one
   pub along_two : along_path (codes "c" ∷ [])

@@ -7,5 +7,5 @@ pub mod Peering
 pub mod Resolving
 pub mod Storing
 pub mod SubQueries
-pub mod Told
+pub mod Questions
 pub mod Visits

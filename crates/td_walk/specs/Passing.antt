@@ -6,11 +6,11 @@ use Rattle.std.specs.Prelude.{codes}
 use Rattle.std.specs.Prelude.{filter, fold, option_map}
 use Rattle.std.specs.List.{find}
 use Rattle.std.specs.Str.{bytes_eq}
-use Rattle.td_codes.specs.Same.{same}
+use Rattle.td_typecode.specs.Same.{same}
 use Rattle.td_value.specs.Enumerations.{follow_option_number}
 use Rattle.td_value.specs.declared.enumerations.FollowOption.{FollowOption}
 use Rattle.td_value.specs.declared.structures.Policy.{Policy}
-use Rattle.td_policy.specs.Values.{Kind, number, rule, texts, octets, policy}
+use Rattle.td_policy.specs.Values.{PolicyKind, number, rule, texts, octets, policy}
 
 -- ---- one policy in a list
 
@@ -51,9 +51,9 @@ card_policy offers = policy number (codes "return_card") offers
 
 -- Over a link, and to a proxy offer's trader: the path is taken out, one hop is taken, a rule is stated where there is
 -- one, the identifier is the search's, and where so many offers are still wanted, no more are to be returned.
-abbrev pub replaced : (hops : ℕ) → Option FollowOption → (identifier : Option (List ℕ))
+abbrev pub with_search_policies : (hops : ℕ) → Option FollowOption → (identifier : Option (List ℕ))
     → (wanted : Option ℕ) → List Policy → List Policy
-replaced hops follow identifier wanted ps =
+with_search_policies hops follow identifier wanted ps =
     with_optional (option_map card_policy wanted)
     (with_optional (option_map identifier_policy identifier)
     (with_optional (option_map follow_policy follow)
@@ -67,7 +67,7 @@ along_path (name ∷ names) ps = with_policy (start_policy (name ∷ names)) ps
 -- ---- policies_to_pass_on
 
 -- the number that a policy of this type states
-abbrev pub value_in : {A : Type 0} → Kind A → Policy → Option A
+abbrev pub value_in : {A : Type 0} → PolicyKind A → Policy → Option A
 value_in kind p = if same p.value.code kind.code then kind.value_of p.value.value else None
 
 abbrev pub number_in : Policy → Option ℕ

@@ -4,11 +4,11 @@ use Rattle.std.specs.Prelude.{◌≡◌, ℕ, ◌≤◌, Bool, true, false, List
 use Rattle.std.specs.List.{AllByRecursion}
 use Rattle.td_cdr.specs.Format.{Unless}
 use Rattle.td_cdr.specs.declared.order.Order.TheVariants.{Big}
-use Rattle.td_codes.specs.References.{reference}
-use Rattle.td_codes.specs.Values.{any_value}
-use Rattle.td_codes.specs.declared.code.Any.{Any}
-use Rattle.td_codes.specs.declared.code.TypeCode.{TypeCode}
-use Rattle.td_codes.specs.declared.reference.Ior.{Ior}
+use Rattle.td_typecode.specs.References.{reference}
+use Rattle.td_typecode.specs.Values.{any_value}
+use Rattle.td_typecode.specs.declared.code.Any.{Any}
+use Rattle.td_typecode.specs.declared.code.TypeCode.{TypeCode}
+use Rattle.td_typecode.specs.declared.reference.Ior.{Ior}
 use Rattle.td_ops.specs.declared.call.Query.{Query}
 use Rattle.td_out.specs.Causes.{Rose}
 use Rattle.td_value.specs.Structures.{offer}
@@ -30,29 +30,31 @@ pub data PeerCall : Type 0 where
   -- resolve of a Register
   Resolving : (register : Ior) → (name : List (List ℕ)) → PeerCall
 
-pub data Given : Type 0 where
-  Answered : SubAnswer → Given
-  Evaluated : Any → Given
-  Referred : Ior → Given
-  Failed : PeerFault → Given
+pub data PeerAnswer : Type 0 where
+  Answered : SubAnswer → PeerAnswer
+  Evaluated : Any → PeerAnswer
+  Referred : Ior → PeerAnswer
+  Failed : PeerFault → PeerAnswer
 
 -- a call, and what it gave
 pub record Exchange : Type 0 where
   pub call : PeerCall
-  pub gave : Given
+  pub gave : PeerAnswer
 
 abbrev pub is_memory : PeerFault → Bool
 is_memory fault.Memory = true
 is_memory other = false
 
--- what a call adds to those that were made: one that wanted memory isn't counted
-abbrev pub exchange : {X : Type 0} → (X → Given) → PeerCall → Result X PeerFault → List Exchange
+-- what a call adds to those that were made: one that ran out of memory isn't counted
+abbrev pub exchange : {X : Type 0} → (X → PeerAnswer) → PeerCall → Result X PeerFault
+    → List Exchange
 exchange given call (Ok x) = record { call = call; gave = given x } ∷ []
 exchange given call (Err fault.Memory) = []
 exchange given call (Err f) = record { call = call; gave = Failed f } ∷ []
 
 -- The call is noted with what it gave. The count of faults never falls, and a fault comes only where it rose.
-pub record IsNoted {X : Type 0} (given : X → Given) (call : PeerCall) (before after : List Exchange)
+pub record IsNoted {X : Type 0} (given : X → PeerAnswer) (call : PeerCall)
+    (before after : List Exchange)
     (faults now : ℕ) (r : Result X PeerFault) : Type 0 where
   pub calls : after ≡ before ++ exchange given call r
   pub later : faults ≤ now
@@ -73,13 +75,13 @@ abbrev pub HasWritableOffers : SubAnswer → Type 0
 HasWritableOffers a = AllByRecursion offer.format.admits a.offers
 
 -- what a call gave: offers, a value or a reference; a fault is nothing to write
-abbrev pub AdmitsGift : Given → Type 0
+abbrev pub AdmitsGift : PeerAnswer → Type 0
 AdmitsGift (Answered a) = HasWritableOffers a
 AdmitsGift (Evaluated v) = any_value.format.admits v
 AdmitsGift (Referred r) = reference.format.admits r
 AdmitsGift (Failed f) = Unit {0}
 
-abbrev pub AdmitsGifts : List Given → Type 0
+abbrev pub AdmitsGifts : List PeerAnswer → Type 0
 AdmitsGifts gave = AllByRecursion AdmitsGift gave
 
 -- what each of these calls gave

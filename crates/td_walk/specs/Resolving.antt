@@ -5,14 +5,14 @@ use Rattle.std.specs.Prelude.{option_map, option_and_then}
 use Rattle.std.specs.List.{find, filter_map}
 use Rattle.std.specs.Str.{bytes_eq}
 use Rattle.td_cdr.specs.declared.order.Order.TheVariants.{Big}
-use Rattle.td_codes.specs.Labels.{Held}
-use Rattle.td_codes.specs.Same.{same}
-use Rattle.td_codes.specs.Values.{any_in, any_value, code_in, reference_in}
-use Rattle.td_codes.specs.declared.code.Any.{Any}
-use Rattle.td_codes.specs.declared.code.TypeCode.{TypeCode}
-use Rattle.td_codes.specs.declared.code.TypeCode.TheOpen as c
-use Rattle.td_codes.specs.declared.code.Value.{Value, out-Value}
-use Rattle.td_codes.specs.declared.reference.Ior.{Ior}
+use Rattle.td_typecode.specs.Labels.{ValueLayer}
+use Rattle.td_typecode.specs.Same.{same}
+use Rattle.td_typecode.specs.Values.{any_in, any_value, code_in, reference_in}
+use Rattle.td_typecode.specs.declared.code.Any.{Any}
+use Rattle.td_typecode.specs.declared.code.TypeCode.{TypeCode}
+use Rattle.td_typecode.specs.declared.code.TypeCode.TheOpen as c
+use Rattle.td_typecode.specs.declared.code.Value.{Value, out-Value}
+use Rattle.td_typecode.specs.declared.reference.Ior.{Ior}
 use Rattle.td_eval.specs.Properties.{property}
 use Rattle.td_ior.specs.Profiles.{iiop_of}
 use Rattle.td_store.specs.Candidates.{is_dynamic}
@@ -24,7 +24,7 @@ use Rattle.td_walk.specs.declared.evaluation.Evaluation.{Evaluation}
 
 -- ---- dynamic properties
 
-abbrev pub members_in : Held → List Value
+abbrev pub members_in : ValueLayer → List Value
 members_in (c.Value::Struct members) = members
 members_in l = []
 

@@ -2,12 +2,12 @@
 use Rattle.std.specs.Prelude.{◌≡◌, ◌⊎◌, ℕ, List, refl}
 use Rattle.std.specs.Coded.{Coded, code_by, coded×, coded⊎, coded_list, coded_ℕ}
 use Rattle.std.proofs.Common.{inl, inr}
-use Rattle.td_codes.specs.declared.code.Any.{Any}
-use Rattle.td_codes.specs.declared.code.TypeCode.{TypeCode}
-use Rattle.td_codes.specs.declared.reference.Ior.{Ior}
+use Rattle.td_typecode.specs.declared.code.Any.{Any}
+use Rattle.td_typecode.specs.declared.code.TypeCode.{TypeCode}
+use Rattle.td_typecode.specs.declared.reference.Ior.{Ior}
 use Rattle.td_ops.specs.declared.call.Query.{Query}
 use Rattle.td_walk.specs.Peering.{Exchange, PeerCall, Querying, Evaluating, RegisterOf, Resolving}
-use Rattle.td_walk.specs.Peering.{Given, Answered, Evaluated, Referred, Failed}
+use Rattle.td_walk.specs.Peering.{PeerAnswer, Answered, Evaluated, Referred, Failed}
 use Rattle.td_walk.specs.declared.answer.SubAnswer.{SubAnswer}
 use Rattle.td_walk.specs.declared.fault.PeerFault.{PeerFault}
 
@@ -50,35 +50,35 @@ call_code ior query code any =
 abbrev GivenCases : Type 0
 GivenCases = SubAnswer ⊎ (Any ⊎ (Ior ⊎ PeerFault))
 
-abbrev given_cases : Given → GivenCases
+abbrev given_cases : PeerAnswer → GivenCases
 given_cases (Answered a) = inl a
 given_cases (Evaluated v) = inr (inl v)
 given_cases (Referred r) = inr (inr (inl r))
 given_cases (Failed f) = inr (inr (inr f))
 
-abbrev given_from : GivenCases → Given
+abbrev given_from : GivenCases → PeerAnswer
 given_from (inl a) = Answered a
 given_from (inr (inl v)) = Evaluated v
 given_from (inr (inr (inl r))) = Referred r
 given_from (inr (inr (inr f))) = Failed f
 
-pub given_from-cases : (g : Given) → given_from (given_cases g) ≡ g
+pub given_from-cases : (g : PeerAnswer) → given_from (given_cases g) ≡ g
 given_from-cases (Answered a) = refl
 given_from-cases (Evaluated v) = refl
 given_from-cases (Referred r) = refl
 given_from-cases (Failed f) = refl
 
-abbrev given_code : Coded SubAnswer → Coded Any → Coded Ior → Coded PeerFault → Coded Given
+abbrev given_code : Coded SubAnswer → Coded Any → Coded Ior → Coded PeerFault → Coded PeerAnswer
 given_code answer any ior fault =
     code_by GivenCases (coded⊎ answer (coded⊎ any (coded⊎ ior fault)))
     given_cases given_from given_from-cases
 
 -- ---- a call, and what it gave
 
-abbrev exchange_by : Coded PeerCall → Coded Given → Coded Exchange
+abbrev exchange_by : Coded PeerCall → Coded PeerAnswer → Coded Exchange
 exchange_by of_call of_given =
     code_by
-    (PeerCall × Given)
+    (PeerCall × PeerAnswer)
     (coded× of_call of_given)
     (λ e. (e.call, e.gave))
     (λ p. record { call = p.0; gave = p.1 })

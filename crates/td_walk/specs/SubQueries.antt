@@ -17,7 +17,7 @@ use Rattle.td_value.specs.declared.enumerations.FollowOption.{FollowOption}
 use Rattle.td_value.specs.declared.enumerations.FollowOption.TheVariants.{LocalOnly, IfNoLocal, Always}
 use Rattle.td_value.specs.declared.structures.Policy.{Policy}
 use Rattle.td_value.specs.declared.unions.SpecifiedProps.TheVariants as props
-use Rattle.td_walk.specs.Passing.{replaced, along_path, with_all_passed}
+use Rattle.td_walk.specs.Passing.{with_search_policies, along_path, with_all_passed}
 use Rattle.td_walk.specs.declared.answer.Next.{Next}
 use Rattle.td_walk.specs.declared.answer.Next.TheVariants.{Forward}
 
@@ -33,8 +33,8 @@ passed_preference preference.Random text = codes "first"
 passed_preference other text = text
 
 -- the query with a constraint and these policies, for all properties
-abbrev pub passed : Local → (constraint : List ℕ) → List Policy → Query
-passed l constraint policies = record {
+abbrev pub sub_query_with : Local → (constraint : List ℕ) → List Policy → Query
+sub_query_with l constraint policies = record {
   service_type = l.query.service_type;
   constraint = constraint;
   preference = passed_preference l.preference l.query.preference;
@@ -55,7 +55,8 @@ path_left None = []
 path_left (Some names) = rest_of names
 
 unfoldable pub path_query : Local → Query
-path_query l = passed l l.query.constraint (along_path (path_left l.stated.start) l.query.policies)
+path_query l = sub_query_with l l.query.constraint
+    (along_path (path_left l.stated.start) l.query.policies)
 
 -- ---- how many offers are still wanted
 
@@ -80,8 +81,9 @@ is_full (Some (suc n)) = false
 
 unfoldable pub link_query : Local → (wanted : Option ℕ) → LinkRecord → Query
 link_query l wanted link =
-    passed l l.query.constraint
-    (replaced l.effective.hops (Some (pass_on l.stated l.attributes link.limiting link.def_pass_on))
+    sub_query_with l l.query.constraint
+    (with_search_policies l.effective.hops
+    (Some (pass_on l.stated l.attributes link.limiting link.def_pass_on))
     l.identifier wanted l.query.policies)
 
 -- a link's rule lets it be followed
@@ -110,8 +112,8 @@ link_step l wanted local_match link =
 -- ---- to a proxy offer's trader
 
 -- what the recipe makes of the importer's constraint and the offer's properties as they were exported
-unfoldable pub expanded : (constraint : List ℕ) → OfferRecord → ProxyPart → Option (List ℕ)
-expanded constraint o part = option_and_then (expansion constraint o.properties)
+unfoldable pub expansion_of : (constraint : List ℕ) → OfferRecord → ProxyPart → Option (List ℕ)
+expansion_of constraint o part = option_and_then (expansion constraint o.properties)
     (recipe_of part.recipe)
 
 -- the rule that is passed on where one is stated
@@ -120,16 +122,17 @@ stated_rule stated maximum = option_map (λ r. lesser r maximum) stated
 
 unfoldable pub proxy_query : Local → (wanted : Option ℕ) → ProxyPart → (constraint : List ℕ) → Query
 proxy_query l wanted part constraint =
-    passed l constraint
+    sub_query_with l constraint
     (with_all_passed (is_some wanted) part.policies
-    (replaced l.effective.hops (stated_rule l.stated.follow l.attributes.max_follow_policy)
+    (with_search_policies l.effective.hops
+    (stated_rule l.stated.follow l.attributes.max_follow_policy)
     l.identifier wanted l.query.policies))
 
 abbrev pub call_of : Local → (wanted : Option ℕ) → OfferRecord → ProxyPart → Option Next
 call_of l wanted o part =
     if not (is_full wanted) && has_hops l then
     option_map (λ text. Forward o.reference (proxy_query l wanted part text))
-    (expanded l.query.constraint o part)
+    (expansion_of l.query.constraint o part)
     else None
 
 -- a proxy offer that matched is called while offers are wanted, where there are hops and its recipe expands

@@ -1,8 +1,8 @@
 //! Dynamic properties (OMG's Trading Object Service, module CosTradingDynamic).
 
 ghost use Rattle.std.specs.Prelude.{◌≡◌, IfOk, is_some, option_map, option_copied};
-ghost use Rattle.td_codes.specs.Values.{any_in, code_in, reference_in};
-ghost use Rattle.td_codes.specs.declared.code.Value.{out-Value};
+ghost use Rattle.td_typecode.specs.Values.{any_in, code_in, reference_in};
+ghost use Rattle.td_typecode.specs.declared.code.Value.{out-Value};
 ghost use Rattle.td_eval.specs.Properties.{property};
 ghost use Rattle.td_ior.specs.Profiles.{iiop_of};
 ghost use Rattle.td_walk.specs.Lent.{lent};

@@ -2,8 +2,8 @@
 
 ghost use Rattle.std.specs.Prelude.{◌≡◌, IfOk, OnOk, Some, map};
 ghost use Rattle.td_walk.specs.Lent.{lent};
-ghost use Rattle.td_walk.specs.Told.{Tells, Kept, made_up_to};
-ghost use Rattle.td_walk.specs.Visits.{question_on, evaluated_property, evaluated_name, evaluated};
+ghost use Rattle.td_walk.specs.Questions.{AsksOrGives, UnchangedIfAsking, made_up_to};
+ghost use Rattle.td_walk.specs.Visits.{question_on, evaluated_property, evaluated_name, evaluate_names};
 
 use crate::answer::Next;
 use crate::dynamic::{Dynamic, dynamic_named, value_from};
@@ -38,10 +38,10 @@ fn evaluate(
     dynamic: Dynamic<'_>,
     left: &mut Left<'_>,
 ) -> Result<Option<Next>, Memory>
-    ensures told { IfOk result (λ question.
-        Tells (evaluated_property made.old name.now (Some (lent dynamic.entry))
+    ensures content { IfOk result (λ question.
+        AsksOrGives (evaluated_property made.old name.now (Some (lent dynamic.entry))
         left.old.answers.now) question made.new left.new.answers.now) }
-    ensures kept { IfOk result (λ question. Kept question made.old made.new) }
+    ensures kept { IfOk result (λ question. UnchangedIfAsking question made.old made.new) }
 {
     let Some(answer) = left.read() else {
         return Ok(Some(question_on(alloc, name, dynamic)?));
@@ -60,10 +60,10 @@ fn evaluate_name(
     name: &Text,
     left: &mut Left<'_>,
 ) -> Result<Option<Next>, Memory>
-    ensures told { IfOk result (λ question.
-        Tells (evaluated_name properties.now made.old name.now left.old.answers.now)
+    ensures content { IfOk result (λ question.
+        AsksOrGives (evaluated_name properties.now made.old name.now left.old.answers.now)
         question made.new left.new.answers.now) }
-    ensures kept { IfOk result (λ question. Kept question made.old made.new) }
+    ensures kept { IfOk result (λ question. UnchangedIfAsking question made.old made.new) }
 {
     if is_evaluated(made.as_slice(), name.as_slice()) {
         return Ok(None);
@@ -78,7 +78,7 @@ fn evaluate_name(
 ///
 /// # Errors
 ///
-/// `Memory` for want of memory alone.
+/// `Memory` only when out of memory.
 pub fn evaluate_named(
     alloc: Global,
     properties: &[Property],
@@ -86,8 +86,9 @@ pub fn evaluate_named(
     names: &[Text],
     left: &mut Left<'_>,
 ) -> Result<Option<Next>, Memory>
-    ensures told { IfOk result (λ question.
-        Tells (evaluated properties.now made.old names.now left.old.answers.now) question made.new
+    ensures content { IfOk result (λ question.
+        AsksOrGives (evaluate_names properties.now made.old names.now left.old.answers.now) question
+        made.new
         left.new.answers.now) }
     ensures stopped { OnOk result
         (made.new ≡ made_up_to properties.now made.old names.now left.old.answers.now) }
@@ -105,15 +106,15 @@ pub fn evaluate_named(
 ///
 /// # Errors
 ///
-/// `Memory` for want of memory alone.
+/// `Memory` only when out of memory.
 pub fn evaluate_each(
     alloc: Global,
     properties: &[Property],
     made: &mut List<Evaluation>,
     left: &mut Left<'_>,
 ) -> Result<Option<Next>, Memory>
-    ensures told { IfOk result (λ question.
-        Tells (evaluated properties.now made.old (map (λ p. p.name) properties.now)
+    ensures content { IfOk result (λ question.
+        AsksOrGives (evaluate_names properties.now made.old (map (λ p. p.name) properties.now)
         left.old.answers.now) question made.new left.new.answers.now) }
     ensures stopped { OnOk result
         (made.new ≡ made_up_to properties.now made.old (map (λ p. p.name) properties.now)

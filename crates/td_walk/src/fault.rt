@@ -18,7 +18,7 @@ pub enum PeerFault {
     /// The peer answered an exception.
     #[error("the peer answered an exception")]
     Exception,
-    /// Want of memory.
+    /// Out of memory.
     #[error("there is no memory left")]
     Memory,
 }

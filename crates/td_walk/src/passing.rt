@@ -6,7 +6,7 @@ ghost use Rattle.std.specs.List.{position};
 ghost use Rattle.td_value.specs.Enumerations.{follow_option_number};
 ghost use Rattle.td_policy.specs.Values.{rule, rule_numbered};
 ghost use Rattle.td_walk.specs.Passing.{is_named, policy_named, with_policy, with_optional, without_policy};
-ghost use Rattle.td_walk.specs.Passing.{follow_policy, identifier_policy, card_policy, replaced};
+ghost use Rattle.td_walk.specs.Passing.{follow_policy, identifier_policy, card_policy, with_search_policies};
 ghost use Rattle.td_walk.specs.Passing.{along_path};
 ghost use Rattle.td_walk.specs.Passing.{number_in, follow_in, is_less, states_less, stands, with_passed};
 ghost use Rattle.td_walk.specs.Passing.{with_all_passed};
@@ -114,8 +114,8 @@ fn put_card(alloc: Global, policies: &mut Vec<Policy>, wanted: Option<u32>) -> R
 ///
 /// # Errors
 ///
-/// `Memory` for want of memory alone.
-pub(crate) fn replaced(
+/// `Memory` only when out of memory.
+pub(crate) fn with_search_policies(
     alloc: Global,
     hops: u32,
     follow: Option<FollowOption>,
@@ -124,7 +124,7 @@ pub(crate) fn replaced(
     policies: &[Policy],
 ) -> Result<Vec<Policy>, Memory>
     ensures { IfOk result (λ passed. passed.items
-        ≡ replaced hops follow identifier.now wanted policies.now) }
+        ≡ with_search_policies hops follow identifier.now wanted policies.now) }
 {
     let mut passed = copies_without(alloc, policies, b"starting_trader")?;
     put(
@@ -141,7 +141,7 @@ pub(crate) fn replaced(
 ///
 /// # Errors
 ///
-/// `Memory` for want of memory alone.
+/// `Memory` only when out of memory.
 pub(crate) fn along_path(
     alloc: Global,
     left: &[Text],
@@ -291,7 +291,7 @@ fn put_passed(
 ///
 /// # Errors
 ///
-/// `Memory` for want of memory alone.
+/// `Memory` only when out of memory.
 pub(crate) fn put_all_passed(
     alloc: Global,
     limited: bool,

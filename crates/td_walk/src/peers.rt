@@ -1,7 +1,7 @@
 //! The peers outside.
 
 ghost use Rattle.std.specs.Prelude.{◌≡◌, ℕ, List, IfOk};
-ghost use Rattle.td_codes.specs.References.{reference};
+ghost use Rattle.td_typecode.specs.References.{reference};
 ghost use Rattle.td_walk.specs.Peering.{Exchange, IsNoted, HasSmallOffers, Querying, Evaluating, RegisterOf};
 ghost use Rattle.td_walk.specs.Peering.{Resolving, AdmitsExchanges, Answered, Evaluated, Referred};
 
@@ -14,7 +14,7 @@ use td_value::{Any, Ior, TypeCode};
 
 /// Peers outside, which are called one at a time.
 pub trait Peers {
-    /// The calls that were made, with what each gave, in order; one that wanted memory isn't among them.
+    /// The calls that were made, with what each gave, in order; one that ran out of memory isn't among them.
     ghost calls: { Self → List Exchange };
 
     /// How many faults there were. The count never falls, and stands still at 2^64 - 1.
@@ -27,7 +27,7 @@ pub trait Peers {
     ///
     /// # Errors
     ///
-    /// `Wire`, `Grammar` and `Exception` only where the count of faults rose; `Memory` for want of memory.
+    /// `Wire`, `Grammar` and `Exception` only where the count of faults rose; `Memory` when out of memory.
     fn query(&mut self, alloc: Global, target: &Ior, q: &Query) -> Result<SubAnswer, PeerFault>
         ensures same { same self.old self.new }
         ensures noted { IsNoted (λ a. Answered a) (Querying target.now q.now) (calls self.old)

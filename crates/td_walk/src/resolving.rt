@@ -67,7 +67,7 @@ fn resolved_property(
 ///
 /// # Errors
 ///
-/// `Memory` for want of memory alone.
+/// `Memory` only when out of memory.
 #[tactic(auto, unfolding(crate::specs::Resolving::resolved))]
 pub fn resolved(
     alloc: Global,

@@ -3,11 +3,12 @@
 
 ghost use Rattle.std.specs.Prelude.{◌≡◌, ℕ, ◌-◌, None, Some, option_map, IfOk};
 ghost use Rattle.td_walk.specs.Passing.{along_path};
-ghost use Rattle.td_walk.specs.SubQueries.{passed_preference, passed, path_left, path_query, link_query, lets_follow};
+ghost use Rattle.td_walk.specs.SubQueries.{passed_preference, sub_query_with, path_left, path_query, link_query};
+ghost use Rattle.td_walk.specs.SubQueries.{lets_follow};
 ghost use Rattle.td_walk.specs.SubQueries.{has_hops, follows, stated_rule, proxy_query};
 ghost use Rattle.td_walk.specs.SubQueries.{keeps_order, wanted_behind, is_full};
 
-use crate::passing::{along_path, copies_without, put_all_passed, replaced};
+use crate::passing::{along_path, copies_without, put_all_passed, with_search_policies};
 use std::alloc::Global;
 use td_cdr::{List, Memory, Text, Twin};
 use td_lang::Preference;
@@ -21,7 +22,8 @@ const ASKED_AT_ONCE: u32 = 1000;
 
 /// The preference that is passed on: random offers are drawn where the query began.
 fn passed_preference(alloc: Global, preference: &Preference, text: &Text) -> Result<Text, Memory>
-    ensures { IfOk result (λ passed. passed ≡ passed_preference preference.now text.now) }
+    ensures { IfOk result (λ sub_query_with. sub_query_with
+        ≡ passed_preference preference.now text.now) }
 {
     match preference {
         Preference::Random => Text::from_slice(alloc, b"first"),
@@ -30,13 +32,13 @@ fn passed_preference(alloc: Global, preference: &Preference, text: &Text) -> Res
 }
 
 /// The query with a constraint and these policies, for all properties.
-fn passed(
+fn sub_query_with(
     alloc: Global,
     local: &Local,
     constraint: Text,
     policies: Vec<Policy>,
 ) -> Result<Query, Memory>
-    ensures { IfOk result (λ query. query ≡ passed local.now constraint policies.items) }
+    ensures { IfOk result (λ query. query ≡ sub_query_with local.now constraint policies.items) }
 {
     let service_type = local.query.service_type.copy(alloc)?;
     let preference = passed_preference(alloc, &local.preference, &local.query.preference)?;
@@ -56,7 +58,8 @@ fn path_policies(
     start: &Option<List<Text>>,
     policies: &List<Policy>,
 ) -> Result<Vec<Policy>, Memory>
-    ensures { IfOk result (λ passed. passed.items ≡ along_path (path_left start.now) policies.now) }
+    ensures { IfOk result (λ sub_query_with. sub_query_with.items
+        ≡ along_path (path_left start.now) policies.now) }
 {
     let Some(names) = start else {
         return copies_without(alloc, policies.as_slice(), b"starting_trader");
@@ -72,14 +75,14 @@ fn path_policies(
 ///
 /// # Errors
 ///
-/// `Memory` for want of memory alone.
+/// `Memory` only when out of memory.
 #[tactic(auto, unfolding(crate::specs::SubQueries::path_query))]
 pub fn sub_query_for_path(alloc: Global, local: &Local) -> Result<Query, Memory>
     ensures { IfOk result (λ query. query ≡ path_query local.now) }
 {
     let policies = path_policies(alloc, &local.stated.start, &local.query.policies)?;
     let constraint = local.query.constraint.copy(alloc)?;
-    passed(alloc, local, constraint, policies)
+    sub_query_with(alloc, local, constraint, policies)
 }
 
 /// Whether the offers are in the order in which they are gathered.
@@ -133,7 +136,7 @@ pub fn is_full(wanted: Option<u32>) -> bool
 ///
 /// # Errors
 ///
-/// `Memory` for want of memory alone.
+/// `Memory` only when out of memory.
 #[tactic(auto, unfolding(crate::specs::SubQueries::link_query))]
 pub fn sub_query_for_link(
     alloc: Global,
@@ -149,7 +152,7 @@ pub fn sub_query_for_link(
         link.limiting,
         link.def_pass_on,
     );
-    let policies = replaced(
+    let policies = with_search_policies(
         alloc,
         local.effective.hops,
         Some(rule),
@@ -158,7 +161,7 @@ pub fn sub_query_for_link(
         local.query.policies.as_slice(),
     )?;
     let constraint = local.query.constraint.copy(alloc)?;
-    passed(alloc, local, constraint, policies)
+    sub_query_with(alloc, local, constraint, policies)
 }
 
 /// The rule that is passed on where one is stated.
@@ -177,7 +180,7 @@ fn stated_rule(stated: Option<FollowOption>, maximum: FollowOption) -> Option<Fo
 ///
 /// # Errors
 ///
-/// `Memory` for want of memory alone.
+/// `Memory` only when out of memory.
 #[tactic(auto, unfolding(crate::specs::SubQueries::proxy_query))]
 pub fn sub_query_for_proxy(
     alloc: Global,
@@ -189,7 +192,7 @@ pub fn sub_query_for_proxy(
     ensures { IfOk result (λ query. query ≡ proxy_query local.now wanted part.now constraint) }
 {
     let rule = stated_rule(local.stated.follow, local.attributes.max_follow_policy);
-    let mut policies = replaced(
+    let mut policies = with_search_policies(
         alloc,
         local.effective.hops,
         rule,
@@ -203,7 +206,7 @@ pub fn sub_query_for_proxy(
         &mut policies,
         part.policies.as_slice(),
     )?;
-    passed(alloc, local, constraint, policies)
+    sub_query_with(alloc, local, constraint, policies)
 }
 
 /// Whether a link's rule lets it be followed: `if_no_local` where no ordinary offer matched.

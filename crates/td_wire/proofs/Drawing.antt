@@ -3,8 +3,8 @@ use Rattle.std.proofs.Common.{◌≡◌, ℕ, ◌+◌, ◌-◌, ◌<◌, ◌≤�
 use Rattle.std.proofs.Common.{Option, Some, Ok, subst, ◌∙◌, arith}
 use Rattle.std.proofs.lemmas.List.{take-append-drop, take-append-le, take-take, length-append, length-take, length-drop}
 use Rattle.std.proofs.lemmas.List.{nil_from_length}
-use Rattle.td_wire.specs.Connections.{Connection, Traffic, left_of, Gives, Reads}
-use Rattle.td_wire.specs.InMemory.{Gave}
+use Rattle.td_wire.specs.Connections.{Connection, Traffic, left_of, GivesFront, ReadsTraffic}
+use Rattle.td_wire.specs.InMemory.{GaveBytes}
 
 -- the first bytes of the room are the first ones that were left
 front_given : (left before after : List ℕ) (n : ℕ) → n ≡ min (length left) (length before)
@@ -22,7 +22,7 @@ room_kept left before after n size filled =
     omega (arith, parts, size)
 
 pub gives_front : (t : Traffic) (n : ℕ) (new : Option Connection) (before after : List ℕ)
-    → Gave n t.current new before after → Gives (take n after) (Some t) (Some (record t { current = new }))
+    → GaveBytes n t.current new before after → GivesFront (take n after) (Some t) (Some (record t { current = new }))
 gives_front t n new before after g =
     let left : List ℕ = left_of t in
     let front : take n after ≡ take n left = front_given left before after n g.size g.filled in (
@@ -32,23 +32,23 @@ gives_front t n new before after g =
     )
 
 pub given_within : (t : Traffic) (n : ℕ) (new : Option Connection) (before after : List ℕ)
-    → Gave n t.current new before after → n ≤ length after
+    → GaveBytes n t.current new before after → n ≤ length after
 given_within t n new before after g =
     let kept : length after ≡ length before = room_kept (left_of t) before after n g.size g.filled in
     let size = g.size in omega (arith, kept, size)
 
 -- none come into room only where none are left
 pub none_left : (t : Traffic) (n : ℕ) (new : Option Connection) (before after : List ℕ)
-    → Gave n t.current new before after → n ≡ 0 → 0 < length after → left_of t ≡ []
+    → GaveBytes n t.current new before after → n ≡ 0 → 0 < length after → left_of t ≡ []
 none_left t n new before after g none room =
     let kept : length after ≡ length before = room_kept (left_of t) before after n g.size g.filled in
     let size = g.size in nil_from_length (left_of t) (omega (arith, kept, size, none, room))
 
 pub drawn : {E : Type 0} (t now : Traffic) (n : ℕ) (new : Option Connection) (before after : List ℕ) → t ≡ now
-    → Gave n t.current new before after
-    → Reads {E = E} after (Some now) (Some (record t { current = new })) (Ok n)
+    → GaveBytes n t.current new before after
+    → ReadsTraffic {E = E} after (Some now) (Some (record t { current = new })) (Ok n)
 drawn {E = E} t now n new before after e g =
-    subst (λ (u : Traffic). Reads {E = E} after (Some u) (Some (record t { current = new })) (Ok n)) e (record {
+    subst (λ (u : Traffic). ReadsTraffic {E = E} after (Some u) (Some (record t { current = new })) (Ok n)) e (record {
       bound = given_within t n new before after g;
       ok = gives_front t n new before after g;
       end = λ none room. none_left t n new before after g none room;

@@ -2,7 +2,7 @@
 use Rattle.std.proofs.Common.{◌≡◌, ◌∙◌, ℕ, suc, List, [], ◌∷◌, ◌++◌, length, take, drop, Option, None, Some, option_map}
 use Rattle.std.proofs.Common.{refl, sym, ap, subst, append_assoc, append-nil, arith}
 use Rattle.std.proofs.lemmas.List.{take-append-drop}
-use Rattle.td_wire.specs.Connections.{Connection, Traffic, Gives, having_left, left_in, left_of, with_left}
+use Rattle.td_wire.specs.Connections.{Connection, Traffic, GivesFront, having_left, left_in, left_of, with_left}
 use Rattle.td_wire.specs.Connections.{written_on, wrote}
 
 abbrev at : Traffic → Option Connection → Traffic
@@ -84,15 +84,15 @@ with_own t = go t.current
     go None = refl
     go (Some c) = refl
 
-pub gives_none : (t : Option Traffic) → Gives [] t t
+pub gives_none : (t : Option Traffic) → GivesFront [] t t
 gives_none None = refl
 gives_none (Some t) = (left_of t, refl, ap (λ (x : Traffic). Some x) (sym (with_own t)))
 
-pub gives_more : (first piece : List ℕ) (a b c : Option Traffic) → Gives first a b → Gives piece b c
-    → Gives (first ++ piece) a c
-gives_more first piece None b c g h = subst (λ (x : Option Traffic). Gives piece x c) g h
+pub gives_more : (first piece : List ℕ) (a b c : Option Traffic) → GivesFront first a b → GivesFront piece b c
+    → GivesFront (first ++ piece) a c
+gives_more first piece None b c g h = subst (λ (x : Option Traffic). GivesFront piece x c) g h
 gives_more first piece (Some t) b c g h =
-    let after : Gives piece (Some (with_left g.0 t)) c = subst (λ (x : Option Traffic). Gives piece x c) g.2 h in
+    let after : GivesFront piece (Some (with_left g.0 t)) c = subst (λ (x : Option Traffic). GivesFront piece x c) g.2 h in
     let rest : g.0 ≡ piece ++ after.0 = sym (left_with t first g.0 g.1) ∙ after.1 in (
       after.0,
       g.1 ∙ ap (λ (x : List ℕ). first ++ x) rest ∙ sym (append_assoc first piece after.0),

@@ -27,15 +27,15 @@ first_or_none (answer ∷ answers) = answer
 -- ---- what happens to the connections
 
 -- the one that stood has ended
-abbrev pub ended : Traffic → Traffic
-ended t = record t { past = t.past ++ as_list t.current; current = None }
+abbrev pub end_connection : Traffic → Traffic
+end_connection t = record t { past = t.past ++ as_list t.current; current = None }
 
 abbrev pub fresh : List ℕ → ℕ → List ℕ → Connection
 fresh host port answer = record { host = host; port = port; written = []; left = answer }
 
 -- and a new one stands
-abbrev pub opened : List ℕ → ℕ → Traffic → Traffic
-opened host port t = record {
+abbrev pub open_connection : List ℕ → ℕ → Traffic → Traffic
+open_connection host port t = record {
   past = t.past ++ as_list t.current;
   current = Some (fresh host port (first_or_none t.answers));
   answers = drop 1 t.answers;
@@ -66,27 +66,27 @@ left_of t = left_in t.current
 -- ---- the calls of a wire
 
 -- these bytes came off the front of what was left
-abbrev pub Gives : List ℕ → Option Traffic → Option Traffic → Type 0
-Gives piece None after = after ≡ None
-Gives piece (Some t) after = (rest : List ℕ) × (left_of t ≡ piece ++ rest)
+abbrev pub GivesFront : List ℕ → Option Traffic → Option Traffic → Type 0
+GivesFront piece None after = after ≡ None
+GivesFront piece (Some t) after = (rest : List ℕ) × (left_of t ≡ piece ++ rest)
     × (after ≡ Some (with_left rest t))
 
 -- a connection was made; where it failed, the one that stood may have ended
 pub record Connects {T E : Type 0} (host : List ℕ) (port : ℕ) (before after : Option Traffic)
     (result : Result T E) : Type 0 where
-  pub ok : OnOk result (after ≡ option_map (opened host port) before)
-  pub err : OnErr result ((after ≡ before) ⊎ (after ≡ option_map ended before))
+  pub ok : OnOk result (after ≡ option_map (open_connection host port) before)
+  pub err : OnErr result ((after ≡ before) ⊎ (after ≡ option_map end_connection before))
 
 -- the first bytes of a piece were written
-pub record Writes {E : Type 0} (piece : List ℕ) (before after : Option Traffic)
+pub record WritesTraffic {E : Type 0} (piece : List ℕ) (before after : Option Traffic)
     (result : Result ℕ E) : Type 0 where
   pub ok : IfOk result (λ n. after ≡ option_map (wrote (take n piece)) before)
   pub err : OnErr result (after ≡ before)
 
 -- bytes came off the front of what is left, and none only where there was no room or nothing left
-pub record Reads {E : Type 0} (filled : List ℕ) (before after : Option Traffic)
+pub record ReadsTraffic {E : Type 0} (filled : List ℕ) (before after : Option Traffic)
     (result : Result ℕ E) : Type 0 where
   pub bound : IfOk result (λ n. n ≤ length filled)
-  pub ok : IfOk result (λ n. Gives (take n filled) before after)
+  pub ok : IfOk result (λ n. GivesFront (take n filled) before after)
   pub end : IfOk result (λ n. n ≡ 0 → 0 < length filled → IfSome before (λ t. left_of t ≡ []))
   pub err : OnErr result (after ≡ before)

@@ -3,7 +3,7 @@
 ghost use Rattle.std.specs.Prelude.{◌≡◌, ◌≤◌, ◌<◌, ◌+◌, ◌++◌, min, length, take, drop, OnOk, OnErr, IfSome, IfNone};
 ghost use Rattle.std.specs.Prelude.{None, IsSome, option_map, vec_len, vec_capacity};
 ghost use Rattle.td_wire.specs.Connections.{as_list, first_or_none, fresh, having_left, left_in, written_on};
-ghost use Rattle.td_wire.specs.InMemory.{Gave};
+ghost use Rattle.td_wire.specs.InMemory.{GaveBytes};
 
 use std::alloc::Global;
 use std::marker::Model;
@@ -62,7 +62,7 @@ impl Held {
     ///
     /// # Errors
     ///
-    /// `Memory` for want of memory alone; the connection is then unchanged.
+    /// `Memory` only when out of memory; the connection is then unchanged.
     pub fn put(&mut self, piece: &[u8]) -> Result<(), Memory>
         ensures ok { OnOk result (self.new ≡ written_on piece.now self.old) }
         ensures err { OnErr result (self.new ≡ self.old) }
@@ -97,7 +97,7 @@ fn copy_front(from: &[u8], into: &mut [u8]) -> usize
 pub(crate) fn draw(current: &mut Option<Held>, into: &mut [u8]) -> Option<usize>
     ensures none { IfNone result ((current.old ≡ None) × (current.new ≡ None)
         × (into.new ≡ into.old)) }
-    ensures gave { IfSome result (λ n. Gave n current.old current.new into.old into.new) }
+    ensures gave { IfSome result (λ n. GaveBytes n current.old current.new into.old into.new) }
 {
     match current {
         None => None,
@@ -109,7 +109,7 @@ pub(crate) fn draw(current: &mut Option<Held>, into: &mut [u8]) -> Option<usize>
 ///
 /// # Errors
 ///
-/// `Failed` where no connection stands, and for want of memory.
+/// `Failed` where no connection stands, and when out of memory.
 pub(crate) fn put(current: &mut Option<Held>, piece: &[u8]) -> Result<(), Failed>
     ensures stands { OnOk result (IsSome current.old) }
     ensures ok { OnOk result (current.new ≡ option_map (written_on piece.now) current.old) }

@@ -2,9 +2,10 @@
 
 ghost use Rattle.std.specs.Prelude.{◌≡◌, ◌≤◌, ◌+◌, ◌++◌, [], None, Some, option_map, slice_get, OnOk, OnErr};
 ghost use Rattle.std.specs.Prelude.{length, vec_len, vec_capacity};
-ghost use Rattle.td_out.specs.Causes.{HasCause, Takes};
-ghost use Rattle.td_wire.specs.Connections.{as_list, ended, opened, Connects, Reads, Writes};
-ghost use Rattle.td_wire.specs.InMemory.{Draws, Opens, Puts, written_over};
+ghost use Rattle.td_out.specs.Causes.{HasCause, TakesPiece};
+ghost use Rattle.td_wire.specs.Connections.{as_list, end_connection, open_connection, Connects, ReadsTraffic};
+ghost use Rattle.td_wire.specs.Connections.{WritesTraffic};
+ghost use Rattle.td_wire.specs.InMemory.{ReadsConnection, OpensConnection, WritesPiece, written_over};
 
 use crate::held::{Held, draw, keep, put, take_first};
 use crate::wire::Wire;
@@ -27,9 +28,9 @@ pub struct MemWire {
 }
 
 impl Model for MemWire {
-    ghost use Rattle.td_wire.specs.InMemory.{Wired};
+    ghost use Rattle.td_wire.specs.InMemory.{WireState};
 
-    ghost Value = { Wired };
+    ghost Value = { WireState };
 
     ghost view = { λ w. record {
       traffic = record { past = w.past.items; current = w.current; answers = w.answers.items };
@@ -68,10 +69,10 @@ impl MemWire {
     ///
     /// # Errors
     ///
-    /// `Memory` for want of memory alone; nothing has changed then.
+    /// `Memory` only when out of memory; nothing has changed then.
     fn open(&mut self, host: &[u8], port: u16) -> Result<(), Memory>
         ensures ok { OnOk result (self.new
-            ≡ record self.old { traffic = opened host.now port self.old.traffic }) }
+            ≡ record self.old { traffic = open_connection host.now port self.old.traffic }) }
         ensures err { OnErr result (self.new ≡ self.old) }
     {
         let host = Text::from_slice(self.alloc, host)?;
@@ -108,7 +109,7 @@ fn written_over<'a>(
 }
 
 impl Wire for MemWire {
-    ghost told = { λ w. Some w.traffic };
+    ghost content = { λ w. Some w.traffic };
 
     ghost faults = { λ w. w.calls.faults };
 
@@ -123,7 +124,7 @@ impl Wire for MemWire {
         ensures bytes { Connects host.now port (Some self.old.traffic)
             (Some self.new.traffic) result }
         ensures cause { HasCause self.old.calls.faults self.new.calls.faults result }
-        ensures exact { Opens host.now port self.old self.new result }
+        ensures exact { OpensConnection host.now port self.old self.new result }
     {
         if self.calls.fails() {
             self.calls.count_fault();
@@ -145,9 +146,10 @@ impl Wire for MemWire {
     #[tactic(auto, using(crate::proofs::Drawing::given))]
     fn read(&mut self, into: &mut [u8]) -> Result<usize, Failed>
         ensures same { Unit {0} }
-        ensures bytes { Reads into.new (Some self.old.traffic) (Some self.new.traffic) result }
+        ensures bytes { ReadsTraffic into.new (Some self.old.traffic) (Some self.new.traffic)
+            result }
         ensures cause { HasCause self.old.calls.faults self.new.calls.faults result }
-        ensures exact { Draws self.old self.new into.old into.new result }
+        ensures exact { ReadsConnection self.old self.new into.old into.new result }
     {
         if self.calls.fails() {
             self.calls.count_fault();
@@ -168,10 +170,11 @@ impl Wire for MemWire {
     /// No connection that stands is a fault.
     fn write(&mut self, piece: &[u8]) -> Result<usize, Failed>
         ensures same { Unit {0} }
-        ensures some { Takes result piece.now }
-        ensures bytes { Writes piece.now (Some self.old.traffic) (Some self.new.traffic) result }
+        ensures some { TakesPiece result piece.now }
+        ensures bytes { WritesTraffic piece.now (Some self.old.traffic) (Some self.new.traffic)
+            result }
         ensures cause { HasCause self.old.calls.faults self.new.calls.faults result }
-        ensures exact { Puts piece.now self.old self.new result }
+        ensures exact { WritesPiece piece.now self.old self.new result }
     {
         if self.calls.fails() {
             self.calls.count_fault();
@@ -192,9 +195,9 @@ impl Wire for MemWire {
     /// The connection ends in any case. It isn't among the calls that may fail.
     fn finish(&mut self, _whole: bool)
         ensures same { Unit {0} }
-        ensures bytes { Some self.new.traffic ≡ Some (ended self.old.traffic) }
+        ensures bytes { Some self.new.traffic ≡ Some (end_connection self.old.traffic) }
         ensures faults { self.new.calls.faults ≡ self.old.calls.faults }
-        ensures exact { self.new ≡ record self.old { traffic = ended self.old.traffic } }
+        ensures exact { self.new ≡ record self.old { traffic = end_connection self.old.traffic } }
     {
         let done = self.current.take();
         keep(&mut self.past, done);

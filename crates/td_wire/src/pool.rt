@@ -78,7 +78,7 @@ impl<S: OpenStream + Drop> ConnectionPool<S> {
     ///
     /// # Errors
     ///
-    /// `Memory` for want of memory alone.
+    /// `Memory` only when out of memory.
     pub fn new(alloc: Global) -> Result<ConnectionPool<S>, Memory> {
         let mut hashes = Vec::with_capacity(alloc, MOST_KEPT)?;
         let mut places = Vec::with_capacity(alloc, MOST_KEPT)?;
@@ -106,7 +106,7 @@ impl<S: OpenStream + Drop> ConnectionPool<S> {
         }
     }
 
-    /// The peer of this host and port; none where the host's name is too long, and for want of memory.
+    /// The peer of this host and port; none where the host's name is too long, and when out of memory.
     pub(crate) fn peer(&self, host: &[u8], port: u16) -> Option<Peer> {
         if host.len() > LONGEST_HOST {
             return None;

@@ -1,7 +1,7 @@
 //! One call over TCP: its connection, and how much of time and bytes it may still take.
 
 ghost use Rattle.std.specs.Io.{ReadsAtMost};
-ghost use Rattle.td_out.specs.Causes.{Takes};
+ghost use Rattle.td_out.specs.Causes.{TakesPiece};
 
 use crate::tcp_connection::{LATEST, TcpConnection};
 use std::io::{Read, Write};
@@ -91,7 +91,7 @@ impl<S: OpenStream + Read + Write> TcpCall<S> {
 
     /// One write to the stream, which takes no longer than the call may.
     pub(crate) fn write<C: Clock>(&mut self, clock: &C, piece: &[u8]) -> Result<usize, Failed>
-        ensures some { Takes result piece.now }
+        ensures some { TakesPiece result piece.now }
     {
         let Some(rest) = self.deadline.rest(clock) else {
             return Err(Failed);

@@ -3,7 +3,7 @@
 ghost use Rattle.std.specs.Prelude.{◌≡◌, ◌≤◌, None, IfNone};
 ghost use Rattle.std.specs.Io.{ReadsAtMost};
 ghost use Rattle.std.specs.Result.{IsErr};
-ghost use Rattle.td_out.specs.Causes.{raised, Takes};
+ghost use Rattle.td_out.specs.Causes.{next_count, TakesPiece};
 
 use crate::pool::ConnectionPool;
 use crate::tcp_call::{Deadline, TcpCall};
@@ -16,8 +16,8 @@ use std::net::{Net, OpenStream};
 use std::rt::Clock;
 use td_out::Failed;
 
-/// A wire over TCP. A host is a name, which the system looks up, or an address; each of its addresses is tried. It tells
-/// nothing of its content.
+/// A wire over TCP. A host is a name, which the system looks up, or an address; each of its addresses is tried. It
+/// tells nothing of its content.
 ///
 /// A call, from `connect` to `finish`, has its limits: 10 seconds for each address, 60 seconds for all of it, and 256
 /// MiB that are read. What would go past them is a fault. With a pool, `connect` may take a connection over which an
@@ -62,7 +62,7 @@ impl<'a, R: Net> TcpWire<'a, R> {
 
     /// Counts a fault. The count stands still at 2^64 - 1.
     fn count_fault(&mut self)
-        ensures after { self.new ≡ raised self.old }
+        ensures after { self.new ≡ next_count self.old }
         ensures later { self.old ≤ self.new }
     {
         self.faults = self.faults.saturating_add(1);
@@ -70,7 +70,7 @@ impl<'a, R: Net> TcpWire<'a, R> {
 }
 
 impl<'a, R: Net + Clock> Wire for TcpWire<'a, R> {
-    ghost told = { λ _. None };
+    ghost content = { λ _. None };
 
     ghost faults = { λ s. s };
 
@@ -231,7 +231,7 @@ fn write_to<S: OpenStream + Read + Write, C: Clock>(
     clock: &C,
     piece: &[u8],
 ) -> Result<usize, Failed>
-    ensures some { Takes result piece.now }
+    ensures some { TakesPiece result piece.now }
     ensures none { IfNone call.old (IsErr result) }
 {
     match call {

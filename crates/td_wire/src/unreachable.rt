@@ -44,8 +44,8 @@ impl UnreachablePeer {
     }
 }
 
-/// The peers that couldn't be reached: at most 256, of which the oldest is forgotten first. No one waits for the list: a
-/// call that can't see it goes on as if nothing were known.
+/// The peers that couldn't be reached: at most 256, of which the oldest is forgotten first. No one waits for the list:
+/// a call that can't see it goes on as if nothing were known.
 #[derive(Drop)]
 pub(crate) struct UnreachablePeers {
     peers: RwLock<Vec<UnreachablePeer>>,
@@ -58,7 +58,7 @@ impl UnreachablePeers {
     ///
     /// # Errors
     ///
-    /// `Memory` for want of memory alone.
+    /// `Memory` only when out of memory.
     pub(crate) fn new(alloc: Global) -> Result<UnreachablePeers, Memory> {
         let peers = Vec::with_capacity(alloc, MOST_PEERS)?;
         Ok(UnreachablePeers {

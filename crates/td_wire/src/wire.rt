@@ -1,15 +1,15 @@
 //! Connections to peers.
 
 ghost use Rattle.std.specs.Prelude.{◌≡◌, ℕ, Option, option_map};
-ghost use Rattle.td_out.specs.Causes.{HasCause, Takes};
-ghost use Rattle.td_wire.specs.Connections.{Traffic, Connects, Writes, Reads, ended};
+ghost use Rattle.td_out.specs.Causes.{HasCause, TakesPiece};
+ghost use Rattle.td_wire.specs.Connections.{Traffic, Connects, WritesTraffic, ReadsTraffic, end_connection};
 
 use td_out::Failed;
 
 /// A wire, which connects to one peer at a time.
 pub trait Wire {
     /// The connections that were made and what those to come will give, where the wire tells.
-    ghost told: { Self → Option Traffic };
+    ghost content: { Self → Option Traffic };
 
     /// How many faults there were. The count never falls, and stands still at 2^64 - 1.
     ghost faults: { Self → ℕ };
@@ -24,7 +24,7 @@ pub trait Wire {
     /// `Failed` only where the count of faults rose. The connection that stood may have ended then.
     fn connect(&mut self, host: &[u8], port: u16) -> Result<(), Failed>
         ensures same { same self.old self.new }
-        ensures bytes { Connects host.now port (told self.old) (told self.new) result }
+        ensures bytes { Connects host.now port (content self.old) (content self.new) result }
         ensures cause { HasCause (faults self.old) (faults self.new) result };
 
     /// Moves bytes from the front of what the connection gives into the front of `into`, and answers how many.
@@ -35,7 +35,7 @@ pub trait Wire {
     /// `Failed` only where the count of faults rose; no byte was then moved.
     fn read(&mut self, into: &mut [u8]) -> Result<usize, Failed>
         ensures same { same self.old self.new }
-        ensures bytes { Reads into.new (told self.old) (told self.new) result }
+        ensures bytes { ReadsTraffic into.new (content self.old) (content self.new) result }
         ensures cause { HasCause (faults self.old) (faults self.new) result };
 
     /// Writes the first bytes of the piece over the connection, and answers how many: at least one of a piece that
@@ -46,8 +46,8 @@ pub trait Wire {
     /// `Failed` only where the count of faults rose; no byte was then written, as far as the wire tells.
     fn write(&mut self, piece: &[u8]) -> Result<usize, Failed>
         ensures same { same self.old self.new }
-        ensures some { Takes result piece.now }
-        ensures bytes { Writes piece.now (told self.old) (told self.new) result }
+        ensures some { TakesPiece result piece.now }
+        ensures bytes { WritesTraffic piece.now (content self.old) (content self.new) result }
         ensures cause { HasCause (faults self.old) (faults self.new) result };
 
     /// Says that the call is done: no connection stands afterwards, whether one stood before or not. It takes no
@@ -58,7 +58,7 @@ pub trait Wire {
     /// same peer; where `whole` is false, it ends. A wire in memory ends it in any case.
     fn finish(&mut self, whole: bool)
         ensures same { same self.old self.new }
-        ensures bytes { told self.new ≡ option_map ended (told self.old) }
+        ensures bytes { content self.new ≡ option_map end_connection (content self.old) }
         ensures faults { faults self.new ≡ faults self.old };
 
     ghost same_self: { (a : Self) → same a a };
@@ -67,7 +67,7 @@ pub trait Wire {
 }
 
 impl<L: Wire> Wire for &mut L {
-    ghost told = { λ s. L.told s.now };
+    ghost content = { λ s. L.content s.now };
 
     ghost faults = { λ s. L.faults s.now };
 

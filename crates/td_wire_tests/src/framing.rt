@@ -8,22 +8,22 @@ use td_giop::{FrameFault, Framer};
 
 /// What a header tells.
 #[derive(Clone, Copy)]
-struct Told {
+struct Reported {
     minor: u8,
     kind: u8,
     order: Order,
 }
 
 /// Whether this message is lent, and again when it is asked for again.
-fn lends(framer: &mut Framer, start: u64, told: Told, bytes: &[u8]) -> bool
+fn lends(framer: &mut Framer, start: u64, content: Reported, bytes: &[u8]) -> bool
     ensures { framer.new ≡ framer.old }
 {
     match framer.next_message() {
         Ok(Some(m)) => {
             m.start == start
-                && m.kind == told.kind
-                && m.order == told.order
-                && m.minor == told.minor
+                && m.kind == content.kind
+                && m.order == content.order
+                && m.minor == content.minor
                 && m.bytes == bytes
         }
         _ => false,
@@ -51,9 +51,9 @@ fn refuses(framer: &mut Framer, fault: FrameFault) -> bool
 }
 
 /// A message with these flags, and with four bytes behind its header.
-fn message_of(told: Told, flags: u8) -> [u8; 16] {
-    let Told { minor, kind, .. } = told;
-    let (high, low) = match told.order {
+fn message_of(content: Reported, flags: u8) -> [u8; 16] {
+    let Reported { minor, kind, .. } = content;
+    let (high, low) = match content.order {
         Order::Big => (0, 4),
         Order::Little => (4, 0),
     };
@@ -73,7 +73,7 @@ fn feeds(framer: &mut Framer, piece: &[u8]) -> bool
 }
 
 /// Whether two messages come out of a stream that is cut there in the first and in the second.
-fn comes_whole(framer: &mut Framer, message: &[u8], cut: usize, told: Told) -> bool
+fn comes_whole(framer: &mut Framer, message: &[u8], cut: usize, content: Reported) -> bool
     requires empty { framer.old.start + length framer.old.rest ≡ 0 }
     requires long { length message.now ≡ 16 }
     requires cut { cut ≤ 16 }
@@ -83,9 +83,9 @@ fn comes_whole(framer: &mut Framer, message: &[u8], cut: usize, told: Told) -> b
     let mut good = feeds(framer, front);
     good &= cut == 16 || lends_nothing(framer) && framer.ended_inside() == inside;
     good &= feeds(framer, back) && feeds(framer, front);
-    good &= lends(framer, 0, told, message) && lends(framer, 0, told, message);
+    good &= lends(framer, 0, content, message) && lends(framer, 0, content, message);
     framer.drop_message();
-    good &= feeds(framer, back) && lends(framer, 16, told, message);
+    good &= feeds(framer, back) && lends(framer, 16, content, message);
     framer.drop_message();
     good && lends_nothing(framer) && framer.ended_inside() == None
 }
@@ -106,11 +106,11 @@ fn messages_are_whole_wherever_a_stream_is_cut(rt: HostRuntime) -> Result<(), Fa
             (1, 0xfc, Order::Big),
             (1, 0xfd, Order::Little),
         ] {
-            let told = Told { minor, kind, order };
-            let message = message_of(told, flags);
+            let content = Reported { minor, kind, order };
+            let message = message_of(content, flags);
             for cut in 0..17usize {
                 let mut framer = Framer::new(alloc, 4).ok().ok_or("a framer")?;
-                assert!(rt; comes_whole(&mut framer, &message, cut, told));
+                assert!(rt; comes_whole(&mut framer, &message, cut, content));
             }
         }
     }

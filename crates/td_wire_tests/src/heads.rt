@@ -89,12 +89,12 @@ fn newer_request(bytes: &[u8]) -> Raw<'_>
 }
 
 /// Whether the head of a Request tells this, and its body begins at this place.
-fn tells_request(m: &Raw, told: (u32, bool), key: &[u8], operation: &[u8], place: u32) -> bool
+fn tells_request(m: &Raw, content: (u32, bool), key: &[u8], operation: &[u8], place: u32) -> bool
     requires { (12 ≤ length m.now.bytes.now) × (length m.now.bytes.now ≤ 100) }
 {
     match read_request(m) {
         Ok(head) => {
-            (head.id, head.answered) == told
+            (head.id, head.answered) == content
                 && head.key == key
                 && head.operation == operation
                 && head.body.place() == place

@@ -1,11 +1,12 @@
--- A hall that goes on, and the jobs that are out.
+-- A job source that goes on, and the jobs that are out.
 use Rattle.std.proofs.Common.{◌≡◌, ℕ, zero, suc, ◌+◌, ◌<◌, Bool, true, false, List, [], ◌∷◌, ◌++◌, length, map, take}
 use Rattle.std.proofs.Common.{drop, remove, slice_index_or, sym, ap, subst, ◌∙◌, append_assoc, append-nil, arith}
 use Rattle.std.proofs.Common.{Result, Ok, Err, OnOk, refl}
 use Rattle.std.proofs.lemmas.Bool.{true≢false}
 use Rattle.std.proofs.lemmas.List.{length-map, length-take-le, map-append}
-use Rattle.td_workers.specs.Works.{Closed, Moves, OfEach, Parted, Placed, Welcomed, Working}
-use Rattle.td_workers.specs.Works.{came, closed, over, went}
+use Rattle.td_workers.specs.JobSources.{ClosesSource, SourceMoves, OfEach, ReturnsResult, AssignsJob, AcceptsJob}
+use Rattle.td_workers.specs.JobSources.{RunsJobs}
+use Rattle.td_workers.specs.JobSources.{came, closed, over, went}
 
 -- ---- each of some jobs
 
@@ -43,13 +44,13 @@ short f xs i within few =
 module _ {H J D : Type 0} (Ready : H → Type 0) (Waits : H → J → Type 0) (admits : H → ℕ → J → H → Type 0)
     (closes : H → H → Type 0) (does : J → D → Type 0) (here : D → Bool) (parts : H → ℕ → D → H → Type 0) where
   abbrev Goes : H → List (ℕ × J) → H → List (ℕ × J) → Type 0
-  Goes h out u left = Moves Ready Waits admits closes does here parts h out u left
+  Goes h out u left = SourceMoves Ready Waits admits closes does here parts h out u left
 
   abbrev Runs : Bool → H → ℕ → List (ℕ × J) → H → Type 0
-  Runs more h n out k = Working admits closes does here parts more h n out k
+  Runs more h n out k = RunsJobs admits closes does here parts more h n out k
 
   abbrev Stays : H → List (ℕ × J) → H → List (ℕ × J) → Type 0
-  Stays h out u left = Placed Ready Waits admits closes does here parts h out u left
+  Stays h out u left = AssignsJob Ready Waits admits closes does here parts h out u left
 
   pub moves_itself : (h : H) (out : List (ℕ × J)) → Ready h → OfEach (Waits h) out → Goes h out h out
   moves_itself h out r w = record { ready = r; stays = λ j x. x; waits = w; leads = λ more n k others x. x }
@@ -65,7 +66,7 @@ module _ {H J D : Type 0} (Ready : H → Type 0) (Waits : H → J → Type 0) (a
   -- one of the jobs was done
   pub moves_parted : (h u : H) (before after : List (ℕ × J)) (number : ℕ) (job : J)
       → length before < 64 → OfEach (Waits h) (before ++ (number, job) ∷ after)
-      → Parted Ready Waits does here parts h number job u
+      → ReturnsResult Ready Waits does here parts h number job u
       → Goes h (before ++ (number, job) ∷ after) u (before ++ after)
   moves_parted h u before after number job few w p = record {
     ready = p.ready;
@@ -93,7 +94,7 @@ module _ {H J D : Type 0} (Ready : H → Type 0) (Waits : H → J → Type 0) (a
   -- one of the workers is gone
   pub moves_removed : {W : Type 0} (f : W → ℕ × J) (h u : H) (xs ys : List W) (i : ℕ) (w : W) → i < length xs
       → i < 64 → w ≡ slice_index_or xs i w → ys ≡ remove xs i → OfEach (Waits h) (map f xs)
-      → Parted Ready Waits does here parts h (f w).0 (f w).1 u → Goes h (map f xs) u (map f ys)
+      → ReturnsResult Ready Waits does here parts h (f w).0 (f w).1 u → Goes h (map f xs) u (map f ys)
   moves_removed f h u xs ys i w b few e r o p =
       let all : map f xs ≡ map f (take i xs) ++ f w ∷ map f (drop (suc i) xs) =
       ap (map f) (cut_at xs i w b e) ∙ map-append f (take i xs) (w ∷ drop (suc i) xs) in
@@ -109,7 +110,7 @@ module _ {H J D : Type 0} (Ready : H → Type 0) (Waits : H → J → Type 0) (a
   -- the same, where it was taken back
   pub removed_if_ok : {W T E : Type 0} (f : W → ℕ × J) (h u : H) (xs ys : List W) (i : ℕ) (w : W) (r : Result T E)
       → i < length xs → i < 64 → w ≡ slice_index_or xs i w → ys ≡ remove xs i → OfEach (Waits h) (map f xs)
-      → OnOk r (Parted Ready Waits does here parts h (f w).0 (f w).1 u) → OnOk r (Goes h (map f xs) u (map f ys))
+      → OnOk r (ReturnsResult Ready Waits does here parts h (f w).0 (f w).1 u) → OnOk r (Goes h (map f xs) u (map f ys))
   removed_if_ok f h u xs ys i w (Ok x) b few e r o p = moves_removed f h u xs ys i w b few e r o p
   removed_if_ok f h u xs ys i w (Err x) b few e r o p = tt
 
@@ -141,14 +142,14 @@ module _ {H J D : Type 0} (Ready : H → Type 0) (Waits : H → J → Type 0) (a
       })
 
   -- one job more, beside those that moved
-  pub seated : {T E : Type 0} (h u v : H) (a b c : List (ℕ × J)) (number : ℕ) (job : J) (r : Result T E) → Goes h a u b
+  pub assigned : {T E : Type 0} (h u v : H) (a b c : List (ℕ × J)) (number : ℕ) (job : J) (r : Result T E) → Goes h a u b
       → Waits h job → OnOk r (Stays u (b ++ (number, job) ∷ []) v c) → OnOk r (Stays h (a ++ (number, job) ∷ []) v c)
-  seated h u v a b c number job (Ok x) p w q = record {
+  assigned h u v a b c number job (Ok x) p w q = record {
     ready = q.ready;
     waits = q.waits;
     leads = λ more n k y. p.leads more n k ((number, job) ∷ []) (q.leads more n k y);
   }
-  seated h u v a b c number job (Err x) p w q = tt
+  assigned h u v a b c number job (Err x) p w q = tt
 
   -- ---- jobs that come
 
@@ -161,14 +162,14 @@ module _ {H J D : Type 0} (Ready : H → Type 0) (Waits : H → J → Type 0) (a
   pub stands_first : (h : H) → Ready h → Stands h h 0 []
   stands_first h r = record { ready = r; waits = tt; leads = λ k x. x }
 
-  pub welcomed : (h m u : H) (number : ℕ) (job : J) (out left : List (ℕ × J)) → admits h number job m
+  pub accepts_job : (h m u : H) (number : ℕ) (job : J) (out left : List (ℕ × J)) → admits h number job m
       → Stays m (out ++ (number, job) ∷ []) u left
-      → Welcomed Ready Waits admits closes does here parts h number out u left
-  welcomed h m u number job out left a g = record { between = m; job = job; came_in = a; placed = g }
+      → AcceptsJob Ready Waits admits closes does here parts h number out u left
+  accepts_job h m u number job out left a g = record { between = m; job = job; came_in = a; placed = g }
 
   -- one more has come, and found its place
   pub stands_next : (begin h u : H) (n : ℕ) (number : ℕ) (out left : List (ℕ × J)) → Stands begin h n out
-      → number ≡ n + 1 → Welcomed Ready Waits admits closes does here parts h number out u left → Stands begin u (n + 1) left
+      → number ≡ n + 1 → AcceptsJob Ready Waits admits closes does here parts h number out u left → Stands begin u (n + 1) left
   stands_next begin h u n number out left s e v =
       let m : H = v.between in
       let job : J = v.job in
@@ -184,7 +185,7 @@ module _ {H J D : Type 0} (Ready : H → Type 0) (Waits : H → J → Type 0) (a
 
   -- no more come, and all were done
   pub stands_over : {T E : Type 0} (begin h m u : H) (n : ℕ) (out left : List (ℕ × J)) (r : Result T E)
-      → Stands begin h n out → Closed Ready Waits closes h m out left → OnOk r (Goes m left u [])
+      → Stands begin h n out → ClosesSource Ready Waits closes h m out left → OnOk r (Goes m left u [])
       → OnOk r (Runs true begin 0 [] u)
   stands_over begin h m u n out left (Ok x) s c g =
       let all : Runs false m n (left ++ []) u = g.leads false n u [] over in

@@ -2,7 +2,7 @@
 
 ghost use Rattle.std.specs.Prelude.{◌<◌, length, IfSome};
 
-use crate::hall::Job;
+use crate::source::Job;
 use crate::worker::Worker;
 
 /// The bit of a place.

@@ -3,10 +3,10 @@
 ghost use Rattle.std.specs.Prelude.{◌≡◌, ℕ, ◌+◌, ◌<◌, ◌≤◌, [], ◌∷◌, ◌++◌, true, vec_len, IfErr, IfOk, OnOk};
 ghost use Rattle.std.specs.Prelude.{MatchOption};
 ghost use Rattle.td_workers.specs.Jobs.{jobs};
-ghost use Rattle.td_workers.specs.Works.{Closed, Moves, OfEach, Placed, Welcomed, Working};
+ghost use Rattle.td_workers.specs.JobSources.{ClosesSource, SourceMoves, OfEach, AssignsJob, AcceptsJob, RunsJobs};
 
-use crate::hall::{Hall, Job, Stop};
 use crate::slots::{bit, free_slot};
+use crate::source::{Job, JobSource, Stop};
 use crate::worker::{Worker, finish, start};
 use std::alloc::Global;
 use std::sync::Wait;
@@ -14,19 +14,20 @@ use std::sync::atomic::{AtomicU64, Ordering};
 use std::thread;
 use std::thread::{Scope, Threads};
 
-/// Takes in the jobs of a hall until no more come, each with the next number from 1, and gives back what was made of
-/// each. It waits for all that were begun.
-pub fn work_all<D: Send + Drop, J: Job<D> + Send + Drop, H: Hall<D, J> + Drop, R: Threads + Wait>(
-    rt: &R,
-    alloc: Global,
-    hall: H,
-) -> (Result<(), Stop>, H)
-    requires { H.ready hall }
-    ensures goes { H.goes hall result.1 }
+/// Takes in the jobs of a job source until no more come, each with the next number from 1, and gives back what was made
+/// of each. It waits for all that were begun.
+pub fn work_all<
+    D: Send + Drop,
+    J: Job<D> + Send + Drop,
+    H: JobSource<D, J> + Drop,
+    R: Threads + Wait,
+>(rt: &R, alloc: Global, job_source: H) -> (Result<(), Stop>, H)
+    requires { H.ready job_source }
+    ensures goes { H.goes job_source result.1 }
     ensures ready { OnOk result.0 (H.ready result.1) }
     ensures worked { OnOk result.0
-        (Working H.admits H.closes J.does J.here H.parts true hall 0 [] result.1) }
-    ensures stops { IfErr result.0 (λ why. H.stops hall why result.1) }
+        (RunsJobs H.admits H.closes J.does J.here H.parts true job_source 0 [] result.1) }
+    ensures stops { IfErr result.0 (λ why. H.stops job_source why result.1) }
 {
     let ended = AtomicU64::new(0);
     let bits = &ended;
@@ -34,12 +35,13 @@ pub fn work_all<D: Send + Drop, J: Job<D> + Send + Drop, H: Hall<D, J> + Drop, R
         thread::scope_env(),
         rt,
         move |scope| -> (Result<(), Stop>, H)
-            requires { H.ready hall }
-            ensures { H.goes hall result.1 × OnOk result.0 (H.ready result.1)
-                × OnOk result.0 (Working H.admits H.closes J.does J.here H.parts true hall 0 []
+            requires { H.ready job_source }
+            ensures { H.goes job_source result.1 × OnOk result.0 (H.ready result.1)
+                × OnOk result.0 (RunsJobs H.admits H.closes J.does J.here H.parts true job_source 0
+                []
                 result.1)
-                × IfErr result.0 (λ why. H.stops hall why result.1) }
-        { work_within(rt, scope, alloc, bits, hall) },
+                × IfErr result.0 (λ why. H.stops job_source why result.1) }
+        { work_within(rt, scope, alloc, bits, job_source) },
     )
 }
 
@@ -50,26 +52,26 @@ fn work_within<
     E,
     D: Send + Drop + 's,
     J: Job<D> + Send + Drop + 's,
-    H: Hall<D, J>,
+    H: JobSource<D, J>,
     R: Threads,
 >(
     rt: &R,
     scope: &Scope<'s, E>,
     alloc: Global,
     ended: &'b AtomicU64,
-    hall: H,
+    job_source: H,
 ) -> (Result<(), Stop>, H)
-    requires { H.ready hall }
-    ensures goes { H.goes hall result.1 }
+    requires { H.ready job_source }
+    ensures goes { H.goes job_source result.1 }
     ensures ready { OnOk result.0 (H.ready result.1) }
     ensures worked { OnOk result.0
-        (Working H.admits H.closes J.does J.here H.parts true hall 0 [] result.1) }
-    ensures stops { IfErr result.0 (λ why. H.stops hall why result.1) }
+        (RunsJobs H.admits H.closes J.does J.here H.parts true job_source 0 [] result.1) }
+    ensures stops { IfErr result.0 (λ why. H.stops job_source why result.1) }
 {
-    let mut hall = hall;
+    let mut job_source = job_source;
     let mut working = Vec::new(alloc);
-    let stop = take_in(rt, scope, ended, &mut working, &mut hall);
-    (stop, hall)
+    let stop = take_in(rt, scope, ended, &mut working, &mut job_source);
+    (stop, job_source)
 }
 
 /// Takes in one job after the other, and waits for the last workers once no more come.
@@ -79,27 +81,27 @@ fn take_in<
     E,
     D: Send + Drop + 's,
     J: Job<D> + Send + Drop + 's,
-    H: Hall<D, J>,
+    H: JobSource<D, J>,
     R: Threads,
 >(
     rt: &R,
     scope: &Scope<'s, E>,
     ended: &'b AtomicU64,
     working: &mut Vec<Worker<D, J>>,
-    hall: &mut H,
+    job_source: &mut H,
 ) -> Result<(), Stop>
-    requires ready { H.ready hall.old }
+    requires ready { H.ready job_source.old }
     requires none { vec_len working.old ≡ 0 }
-    ensures goes { H.goes hall.old hall.new }
-    ensures ready { OnOk result (H.ready hall.new) }
+    ensures goes { H.goes job_source.old job_source.new }
+    ensures ready { OnOk result (H.ready job_source.new) }
     ensures worked { OnOk result
-        (Working H.admits H.closes J.does J.here H.parts true hall.old 0 [] hall.new) }
-    ensures stops { IfErr result (λ why. H.stops hall.old why hall.new) }
+        (RunsJobs H.admits H.closes J.does J.here H.parts true job_source.old 0 [] job_source.new) }
+    ensures stops { IfErr result (λ why. H.stops job_source.old why job_source.new) }
 {
     'accepting: for count in 0..u64::MAX {
-        match welcome(rt, scope, ended, count + 1, working, hall) {
+        match accept_job(rt, scope, ended, count + 1, working, job_source) {
             Err(why) => return Err(why),
-            Ok(None) => return join_all(rt, working, hall),
+            Ok(None) => return join_all(rt, working, job_source),
             Ok(Some(())) => {}
         }
     }
@@ -107,14 +109,14 @@ fn take_in<
 }
 
 /// Waits for the next job, gives back what the workers made that have ended by then, and finds a place for it.
-#[tactic(auto, using(crate::proofs::Moving::welcomed))]
-fn welcome<
+#[tactic(auto, using(crate::proofs::Moving::accepts_job))]
+fn accept_job<
     's,
     'b: 's,
     E,
     D: Send + Drop + 's,
     J: Job<D> + Send + Drop + 's,
-    H: Hall<D, J>,
+    H: JobSource<D, J>,
     R: Threads,
 >(
     rt: &R,
@@ -122,24 +124,26 @@ fn welcome<
     ended: &'b AtomicU64,
     number: u64,
     working: &mut Vec<Worker<D, J>>,
-    hall: &mut H,
+    job_source: &mut H,
 ) -> Result<Option<()>, Stop>
     requires few { vec_len working.old ≤ 64 }
-    requires ready { H.ready hall.old }
-    requires out { OfEach (H.waits hall.old) (jobs working.old.items) }
+    requires ready { H.ready job_source.old }
+    requires out { OfEach (H.waits job_source.old) (jobs working.old.items) }
     ensures few { vec_len working.new ≤ 64 }
-    ensures goes { H.goes hall.old hall.new }
+    ensures goes { H.goes job_source.old job_source.new }
     ensures came { IfOk result (λ came. MatchOption came
-        (Closed H.ready H.waits H.closes hall.old hall.new (jobs working.old.items)
+        (ClosesSource H.ready H.waits H.closes job_source.old job_source.new
+        (jobs working.old.items)
         (jobs working.new.items))
-        (λ none. Welcomed H.ready H.waits H.admits H.closes J.does J.here H.parts hall.old number
-        (jobs working.old.items) hall.new (jobs working.new.items))) }
-    ensures stops { IfErr result (λ why. H.stops hall.old why hall.new) }
+        (λ none. AcceptsJob H.ready H.waits H.admits H.closes J.does J.here H.parts job_source.old
+        number
+        (jobs working.old.items) job_source.new (jobs working.new.items))) }
+    ensures stops { IfErr result (λ why. H.stops job_source.old why job_source.new) }
 {
-    match hall.next(number) {
+    match job_source.next(number) {
         Err(why) => Err(why),
         Ok(None) => Ok(None),
-        Ok(Some(job)) => match seat(rt, scope, ended, number, job, working, hall) {
+        Ok(Some(job)) => match assign(rt, scope, ended, number, job, working, job_source) {
             Err(why) => Err(why),
             Ok(()) => Ok(Some(())),
         },
@@ -147,13 +151,13 @@ fn welcome<
 }
 
 /// Gives back what the ended workers made, and finds a place for one job more.
-fn seat<
+fn assign<
     's,
     'b: 's,
     E,
     D: Send + Drop + 's,
     J: Job<D> + Send + Drop + 's,
-    H: Hall<D, J>,
+    H: JobSource<D, J>,
     R: Threads,
 >(
     rt: &R,
@@ -162,51 +166,51 @@ fn seat<
     number: u64,
     job: J,
     working: &mut Vec<Worker<D, J>>,
-    hall: &mut H,
+    job_source: &mut H,
 ) -> Result<(), Stop>
     requires few { vec_len working.old ≤ 64 }
-    requires ready { H.ready hall.old }
-    requires came { H.waits hall.old job }
-    requires out { OfEach (H.waits hall.old) (jobs working.old.items) }
+    requires ready { H.ready job_source.old }
+    requires came { H.waits job_source.old job }
+    requires out { OfEach (H.waits job_source.old) (jobs working.old.items) }
     ensures few { vec_len working.new ≤ 64 }
-    ensures goes { H.goes hall.old hall.new }
+    ensures goes { H.goes job_source.old job_source.new }
     ensures placed { OnOk result
-        (Placed H.ready H.waits H.admits H.closes J.does J.here H.parts hall.old
-        (jobs working.old.items ++ (number, job) ∷ []) hall.new (jobs working.new.items)) }
-    ensures stops { IfErr result (λ why. H.stops hall.old why hall.new) }
+        (AssignsJob H.ready H.waits H.admits H.closes J.does J.here H.parts job_source.old
+        (jobs working.old.items ++ (number, job) ∷ []) job_source.new (jobs working.new.items)) }
+    ensures stops { IfErr result (λ why. H.stops job_source.old why job_source.new) }
 {
-    match reap(rt, ended.swap(0, Ordering::SeqCst), working, hall) {
+    match reap(rt, ended.swap(0, Ordering::SeqCst), working, job_source) {
         Err(why) => {
             drop(job);
             Err(why)
         }
-        Ok(()) => place(scope, ended, number, job, working, hall),
+        Ok(()) => place(scope, ended, number, job, working, job_source),
     }
 }
 
 /// Gives back what the workers made whose bits are set.
-fn reap<D: Drop, J: Job<D>, H: Hall<D, J>, R: Threads>(
+fn reap<D: Drop, J: Job<D>, H: JobSource<D, J>, R: Threads>(
     rt: &R,
     ended: u64,
     working: &mut Vec<Worker<D, J>>,
-    hall: &mut H,
+    job_source: &mut H,
 ) -> Result<(), Stop>
     requires few { vec_len working.old ≤ 64 }
-    requires ready { H.ready hall.old }
-    requires out { OfEach (H.waits hall.old) (jobs working.old.items) }
+    requires ready { H.ready job_source.old }
+    requires out { OfEach (H.waits job_source.old) (jobs working.old.items) }
     ensures few { vec_len working.new ≤ 64 }
-    ensures goes { H.goes hall.old hall.new }
+    ensures goes { H.goes job_source.old job_source.new }
     ensures moves { OnOk result
-        (Moves H.ready H.waits H.admits H.closes J.does J.here H.parts hall.old
-        (jobs working.old.items) hall.new (jobs working.new.items)) }
-    ensures stops { IfErr result (λ why. H.stops hall.old why hall.new) }
+        (SourceMoves H.ready H.waits H.admits H.closes J.does J.here H.parts job_source.old
+        (jobs working.old.items) job_source.new (jobs working.new.items)) }
+    ensures stops { IfErr result (λ why. H.stops job_source.old why job_source.new) }
 {
     let mut at = 0;
     'reaping: while at < working.len() {
         if ended & bit(working[at].slot) == 0 {
             at += 1;
         } else {
-            match part_at(rt, at, working, hall) {
+            match take_result_at(rt, at, working, job_source) {
                 Err(why) => return Err(why),
                 Ok(()) => {}
             }
@@ -216,22 +220,22 @@ fn reap<D: Drop, J: Job<D>, H: Hall<D, J>, R: Threads>(
 }
 
 /// Waits for all workers, and gives back what they made.
-fn join_all<D: Drop, J: Job<D>, H: Hall<D, J>, R: Threads>(
+fn join_all<D: Drop, J: Job<D>, H: JobSource<D, J>, R: Threads>(
     rt: &R,
     working: &mut Vec<Worker<D, J>>,
-    hall: &mut H,
+    job_source: &mut H,
 ) -> Result<(), Stop>
     requires few { vec_len working.old ≤ 64 }
-    requires ready { H.ready hall.old }
-    requires out { OfEach (H.waits hall.old) (jobs working.old.items) }
-    ensures goes { H.goes hall.old hall.new }
+    requires ready { H.ready job_source.old }
+    requires out { OfEach (H.waits job_source.old) (jobs working.old.items) }
+    ensures goes { H.goes job_source.old job_source.new }
     ensures moves { OnOk result
-        (Moves H.ready H.waits H.admits H.closes J.does J.here H.parts hall.old
-        (jobs working.old.items) hall.new []) }
-    ensures stops { IfErr result (λ why. H.stops hall.old why hall.new) }
+        (SourceMoves H.ready H.waits H.admits H.closes J.does J.here H.parts job_source.old
+        (jobs working.old.items) job_source.new []) }
+    ensures stops { IfErr result (λ why. H.stops job_source.old why job_source.new) }
 {
     'joining: while !working.is_empty() {
-        match part_at(rt, 0, working, hall) {
+        match take_result_at(rt, 0, working, job_source) {
             Err(why) => return Err(why),
             Ok(()) => {}
         }
@@ -240,59 +244,59 @@ fn join_all<D: Drop, J: Job<D>, H: Hall<D, J>, R: Threads>(
 }
 
 /// Waits for one of the workers, and gives back what it made.
-fn part_at<D: Drop, J: Job<D>, H: Hall<D, J>, R: Threads>(
+fn take_result_at<D: Drop, J: Job<D>, H: JobSource<D, J>, R: Threads>(
     rt: &R,
     at: usize,
     working: &mut Vec<Worker<D, J>>,
-    hall: &mut H,
+    job_source: &mut H,
 ) -> Result<(), Stop>
     requires within { at < vec_len working.old }
     requires few { vec_len working.old ≤ 64 }
-    requires ready { H.ready hall.old }
-    requires out { OfEach (H.waits hall.old) (jobs working.old.items) }
+    requires ready { H.ready job_source.old }
+    requires out { OfEach (H.waits job_source.old) (jobs working.old.items) }
     ensures fewer { vec_len working.new + 1 ≡ vec_len working.old }
-    ensures goes { H.goes hall.old hall.new }
+    ensures goes { H.goes job_source.old job_source.new }
     ensures moves { OnOk result
-        (Moves H.ready H.waits H.admits H.closes J.does J.here H.parts hall.old
-        (jobs working.old.items) hall.new (jobs working.new.items)) }
-    ensures stops { IfErr result (λ why. H.stops hall.old why hall.new) }
+        (SourceMoves H.ready H.waits H.admits H.closes J.does J.here H.parts job_source.old
+        (jobs working.old.items) job_source.new (jobs working.new.items)) }
+    ensures stops { IfErr result (λ why. H.stops job_source.old why job_source.new) }
 {
     let worker = working.remove(at);
-    finish(rt, worker, hall)
+    finish(rt, worker, job_source)
 }
 
 /// Starts a worker for a job where a place is free, and does it here otherwise.
-fn place<'s, 'b: 's, E, D: Send + Drop + 's, J: Job<D> + Send + Drop + 's, H: Hall<D, J>>(
+fn place<'s, 'b: 's, E, D: Send + Drop + 's, J: Job<D> + Send + Drop + 's, H: JobSource<D, J>>(
     scope: &Scope<'s, E>,
     ended: &'b AtomicU64,
     number: u64,
     job: J,
     working: &mut Vec<Worker<D, J>>,
-    hall: &mut H,
+    job_source: &mut H,
 ) -> Result<(), Stop>
     requires few { vec_len working.old ≤ 64 }
-    requires ready { H.ready hall.old }
-    requires came { H.waits hall.old job }
-    requires out { OfEach (H.waits hall.old) (jobs working.old.items) }
+    requires ready { H.ready job_source.old }
+    requires came { H.waits job_source.old job }
+    requires out { OfEach (H.waits job_source.old) (jobs working.old.items) }
     ensures few { vec_len working.new ≤ 64 }
-    ensures goes { H.goes hall.old hall.new }
+    ensures goes { H.goes job_source.old job_source.new }
     ensures placed { OnOk result
-        (Placed H.ready H.waits H.admits H.closes J.does J.here H.parts hall.old
-        (jobs working.old.items ++ (number, job) ∷ []) hall.new (jobs working.new.items)) }
-    ensures stops { IfErr result (λ why. H.stops hall.old why hall.new) }
+        (AssignsJob H.ready H.waits H.admits H.closes J.does J.here H.parts job_source.old
+        (jobs working.old.items ++ (number, job) ∷ []) job_source.new (jobs working.new.items)) }
+    ensures stops { IfErr result (λ why. H.stops job_source.old why job_source.new) }
 {
     if working.reserve(1).is_err() {
         drop(job);
         return Err(Stop::Memory);
     }
     let Some(slot) = free_slot(working) else {
-        return hall.part(number, job.work_here());
+        return job_source.part(number, job.work_here());
     };
     match start(scope, ended, slot, number, job) {
         Ok(worker) => {
             working.push_reserved(worker);
             Ok(())
         }
-        Err(made) => hall.part(number, made),
+        Err(made) => job_source.part(number, made),
     }
 }

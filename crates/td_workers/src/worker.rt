@@ -2,21 +2,21 @@
 
 ghost use Rattle.std.specs.Prelude.{◌≡◌, ℕ, ◌<◌, true, false, IfOk, IfErr, OnOk};
 ghost use Rattle.std.specs.Prelude.{MatchResult};
-ghost use Rattle.td_workers.specs.Works.{Parted};
+ghost use Rattle.td_workers.specs.JobSources.{ReturnsResult};
 
-use crate::hall::{Hall, Job, Stop};
 use crate::slots::bit;
+use crate::source::{Job, JobSource, Stop};
 use std::snapshot::Snapshot;
 use std::sync::atomic::{AtomicU64, Ordering};
 use std::thread::{Promise, PromisedHandle, Scope, Threads};
 
 /// What a worker promises: that it does this job, on a thread of its own.
 #[derive(Drop)]
-pub struct Asked<J> {
+pub struct JobPromise<J> {
     job: Snapshot<J>,
 }
 
-impl<D, J: Job<D>> Promise<Result<D, J>> for Asked<J> {
+impl<D, J: Job<D>> Promise<Result<D, J>> for JobPromise<J> {
     ghost kept_by = { λ p result. MatchResult result (λ made. J.does p.job.value made
         × J.here made ≡ false) (λ job. job ≡ p.job.value) };
 }
@@ -28,7 +28,7 @@ pub struct Worker<D, J: Job<D>> {
     pub(crate) slot: u32,
     /// The number of its job.
     pub(crate) number: u64,
-    handle: PromisedHandle<Result<D, J>, Asked<J>>,
+    handle: PromisedHandle<Result<D, J>, JobPromise<J>>,
 }
 
 /// Does a job, and as its last act tells that the worker of this place has ended. Where one that has ended is told of
@@ -56,7 +56,7 @@ pub(crate) fn start<'s, 'b: 's, E, D: Send + Drop + 's, J: Job<D> + Send + Drop 
     ensures ok { IfOk result (λ w. (w.number ≡ number) × (w.handle.promise.job.value ≡ job)) }
     ensures err { IfErr result (λ made. J.does job made) }
 {
-    let asked = Asked {
+    let asked = JobPromise {
         job: Snapshot::of(&job),
     };
     match scope.spawn_with(asked, move || labour(job, ended, slot)) {
@@ -75,19 +75,19 @@ pub(crate) fn start<'s, 'b: 's, E, D: Send + Drop + 's, J: Job<D> + Send + Drop 
     }
 }
 
-/// Waits for a worker, and gives the hall what it made. (No worker gives its job back, since its place was free.)
-pub(crate) fn finish<D: Drop, J: Job<D>, H: Hall<D, J>, R: Threads>(
+/// Waits for a worker, and gives the job source what it made. (No worker gives its job back, since its place was free.)
+pub(crate) fn finish<D: Drop, J: Job<D>, H: JobSource<D, J>, R: Threads>(
     rt: &R,
     worker: Worker<D, J>,
-    hall: &mut H,
+    job_source: &mut H,
 ) -> Result<(), Stop>
-    requires ready { H.ready hall.old }
-    requires came { H.waits hall.old worker.handle.promise.job.value }
-    ensures goes { H.goes hall.old hall.new }
+    requires ready { H.ready job_source.old }
+    requires came { H.waits job_source.old worker.handle.promise.job.value }
+    ensures goes { H.goes job_source.old job_source.new }
     ensures parted { OnOk result
-        (Parted H.ready H.waits J.does J.here H.parts hall.old worker.number
-        worker.handle.promise.job.value hall.new) }
-    ensures stops { IfErr result (λ why. H.stops hall.old why hall.new) }
+        (ReturnsResult H.ready H.waits J.does J.here H.parts job_source.old worker.number
+        worker.handle.promise.job.value job_source.new) }
+    ensures stops { IfErr result (λ why. H.stops job_source.old why job_source.new) }
 {
     let Worker {
         slot: _,
@@ -98,5 +98,5 @@ pub(crate) fn finish<D: Drop, J: Job<D>, H: Hall<D, J>, R: Threads>(
         Ok(made) => made,
         Err(job) => job.work(),
     };
-    hall.part(number, made)
+    job_source.part(number, made)
 }

@@ -3,7 +3,7 @@
 #![tactic(auto)]
 
 use std::process::ExitCode;
-use td_client_run::start;
+use td_cli_program::start;
 
 fn main(rt: HostRuntime) -> ExitCode {
     start(&rt, rt.stdout(), rt.stderr())

@@ -114,8 +114,8 @@ pub fn cut(line: &str) -> (&str, &str) {
 }
 
 /// The fault of a name and a place.
-pub fn fault_of(told: &str) -> LangFault {
-    let (name, digits) = told.split_once(' ').unwrap_or((told, ""));
+pub fn fault_of(content: &str) -> LangFault {
+    let (name, digits) = content.split_once(' ').unwrap_or((content, ""));
     let place = digits.parse::<u32>().unwrap_or(0);
     match name {
         "Syntax" => LangFault::Syntax(place),

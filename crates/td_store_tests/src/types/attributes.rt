@@ -24,16 +24,16 @@ pub(crate) fn see_attributes(
     alloc: Global,
     attributes: &Attributes,
     word: &str,
-    told: &mut Vec<u8>,
+    content: &mut Vec<u8>,
 ) -> Result<(), Memory> {
     if word == "attributes" {
-        return put_attributes(alloc, told, attributes);
+        return put_attributes(alloc, content, attributes);
     }
     let twin = attributes.copy(alloc)?;
-    put_attributes(alloc, told, &twin)
+    put_attributes(alloc, content, &twin)
 }
 
-fn put_attributes(alloc: Global, told: &mut Vec<u8>, a: &Attributes) -> Result<(), Memory> {
+fn put_attributes(alloc: Global, content: &mut Vec<u8>, a: &Attributes) -> Result<(), Memory> {
     for reference in [
         &a.lookup_if,
         &a.register_if,
@@ -42,14 +42,14 @@ fn put_attributes(alloc: Global, told: &mut Vec<u8>, a: &Attributes) -> Result<(
         &a.admin_if,
         &a.type_repos,
     ] {
-        put(told, reference.id.as_slice())?;
+        put(content, reference.id.as_slice())?;
     }
-    put(told, a.request_id_stem.as_slice())?;
-    put_truth(told, Some(a.supports_modifiable_properties))?;
-    put_truth(told, Some(a.supports_dynamic_properties))?;
-    put_truth(told, Some(a.supports_proxy_offers))?;
+    put(content, a.request_id_stem.as_slice())?;
+    put_truth(content, Some(a.supports_modifiable_properties))?;
+    put_truth(content, Some(a.supports_dynamic_properties))?;
+    put_truth(content, Some(a.supports_proxy_offers))?;
     for number in numbers_of(a) {
-        put_number(alloc, told, Some(number as u64))?;
+        put_number(alloc, content, Some(number as u64))?;
     }
     Ok(())
 }

@@ -15,7 +15,7 @@ pub(crate) fn add(
     types: &mut Types,
     words: &str,
     number: u64,
-    told: &mut Vec<u8>,
+    content: &mut Vec<u8>,
 ) -> Result<(), Memory> {
     let (name, rest) = cut(words);
     let (if_name, rest) = cut(rest);
@@ -24,7 +24,7 @@ pub(crate) fn add(
     let if_name = text(alloc, if_name, number)?;
     let props = properties(alloc, props, number)?;
     let supers = names(alloc, supers, number)?;
-    put_answer(alloc, told, types.add(name, if_name, props, supers))
+    put_answer(alloc, content, types.add(name, if_name, props, supers))
 }
 
 /// A call on the type of a name, or the list of all types or of those since an incarnation.
@@ -33,7 +33,7 @@ pub(crate) fn call(
     types: &mut Types,
     word: &str,
     rest: &str,
-    told: &mut Vec<u8>,
+    content: &mut Vec<u8>,
 ) -> Result<(), Memory> {
     let name = text(alloc, rest, 0)?;
     let answer = match word {
@@ -44,7 +44,7 @@ pub(crate) fn call(
         "fully" => types.fully_describe(&name),
         _ => types.list(rest.parse::<u64>().ok()),
     };
-    put_answer(alloc, told, answer)
+    put_answer(alloc, content, answer)
 }
 
 /// What is looked up of one type or of two, or of the interfaces of these ids.
@@ -53,12 +53,12 @@ pub(crate) fn look(
     types: &Types,
     word: &str,
     rest: &str,
-    told: &mut Vec<u8>,
+    content: &mut Vec<u8>,
 ) -> Result<(), Memory> {
     let (first, second) = cut(rest);
     let first = text(alloc, first, 0)?;
     let second = text(alloc, second, 0)?;
-    look_up(alloc, types, word, &first, &second, told)
+    look_up(alloc, types, word, &first, &second, content)
 }
 
 fn look_up(
@@ -67,47 +67,56 @@ fn look_up(
     word: &str,
     first: &Text,
     second: &Text,
-    told: &mut Vec<u8>,
+    content: &mut Vec<u8>,
 ) -> Result<(), Memory> {
     let name = first.as_slice();
     match word {
-        "conforms" => put_truth(told, Some(types.conforms(first, second))),
+        "conforms" => put_truth(content, Some(types.conforms(first, second))),
         "interface_conforms" => {
             put_truth(
-                told,
+                content,
                 Some(types.interface_conforms(name, second.as_slice())),
             )
         }
-        "subtypes" => subtypes(alloc, types, first, told),
-        "how_many_below" => how_many_below(alloc, types, first, told),
-        "incarnation" => put_number(alloc, told, Some(types.incarnation())),
-        "incarnation_of" => put_number(alloc, told, types.incarnation_of(name)),
-        "interface_of" => put_text(told, types.interface_of(name)),
-        "is_masked" => put_truth(told, types.is_masked(name)),
-        "full_properties" => put_properties(told, types.full_properties(name)),
-        "full_property" => put_property(told, types.full_property(name, second.as_slice())),
+        "subtypes" => subtypes(alloc, types, first, content),
+        "how_many_below" => how_many_below(alloc, types, first, content),
+        "incarnation" => put_number(alloc, content, Some(types.incarnation())),
+        "incarnation_of" => put_number(alloc, content, types.incarnation_of(name)),
+        "interface_of" => put_text(content, types.interface_of(name)),
+        "is_masked" => put_truth(content, types.is_masked(name)),
+        "full_properties" => put_properties(content, types.full_properties(name)),
+        "full_property" => put_property(content, types.full_property(name, second.as_slice())),
         "how_many_properties" => {
-            put_number(alloc, told, Some(types.full_properties(name).len() as u64))
+            put_number(
+                alloc,
+                content,
+                Some(types.full_properties(name).len() as u64),
+            )
         }
-        "judge_remove" => put_judgement(told, types.judge_remove(first)),
-        "judge_mask" => put_judgement(told, types.judge_mask(first)),
-        "judge_unmask" => put_judgement(told, types.judge_unmask(first)),
-        _ => put(told, b"no such call"),
+        "judge_remove" => put_judgement(content, types.judge_remove(first)),
+        "judge_mask" => put_judgement(content, types.judge_mask(first)),
+        "judge_unmask" => put_judgement(content, types.judge_unmask(first)),
+        _ => put(content, b"no such call"),
     }
 }
 
-fn put_property(told: &mut Vec<u8>, property: Option<&PropStruct>) -> Result<(), Memory> {
+fn put_property(content: &mut Vec<u8>, property: Option<&PropStruct>) -> Result<(), Memory> {
     match property {
-        None => put(told, b"none"),
-        Some(property) => put_properties(told, std::slice::from_ref(property)),
+        None => put(content, b"none"),
+        Some(property) => put_properties(content, std::slice::from_ref(property)),
     }
 }
 
 /// The incarnations of the types that conform.
-fn subtypes(alloc: Global, types: &Types, base: &Text, told: &mut Vec<u8>) -> Result<(), Memory> {
+fn subtypes(
+    alloc: Global,
+    types: &Types,
+    base: &Text,
+    content: &mut Vec<u8>,
+) -> Result<(), Memory> {
     let numbers = types.subtypes(base)?;
     for number in numbers.as_slice() {
-        put_number(alloc, told, Some(*number))?;
+        put_number(alloc, content, Some(*number))?;
     }
     Ok(())
 }
@@ -116,8 +125,8 @@ fn how_many_below(
     alloc: Global,
     types: &Types,
     base: &Text,
-    told: &mut Vec<u8>,
+    content: &mut Vec<u8>,
 ) -> Result<(), Memory> {
     let numbers = types.subtypes(base)?;
-    put_number(alloc, told, Some(numbers.len() as u64))
+    put_number(alloc, content, Some(numbers.len() as u64))
 }

@@ -63,16 +63,16 @@ pub(crate) fn serve(
     alloc: Global,
     attributes: &Attributes,
     words: &str,
-    told: &mut Vec<u8>,
+    content: &mut Vec<u8>,
 ) -> Result<(), Memory> {
     let stated = stated_of(alloc, words)?;
     let effective = effective_of(alloc, stated.get(), attributes)?;
-    put_effective(alloc, told, &effective)
+    put_effective(alloc, content, &effective)
 }
 
-fn put_effective(alloc: Global, told: &mut Vec<u8>, e: &Effective) -> Result<(), Memory> {
+fn put_effective(alloc: Global, content: &mut Vec<u8>, e: &Effective) -> Result<(), Memory> {
     for number in [e.hops, e.match_card, e.return_card, e.search_card] {
-        put_number(alloc, told, Some(number as u64))?;
+        put_number(alloc, content, Some(number as u64))?;
     }
-    put_names(told, e.over.as_slice())
+    put_names(content, e.over.as_slice())
 }

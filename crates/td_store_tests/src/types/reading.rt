@@ -80,59 +80,63 @@ fn each_field(rt: HostRuntime) -> Result<(), Fail> {
 }
 
 /// Tells whether policies are read, or the first fault and the name of its policy.
-pub(crate) fn read(alloc: Global, words: &str, told: &mut Vec<u8>) -> Result<(), Memory> {
+pub(crate) fn read(alloc: Global, words: &str, content: &mut Vec<u8>) -> Result<(), Memory> {
     let policies = policies(alloc, words)?;
     match read_policies(alloc, &policies).err() {
-        None => put(told, b"ok"),
-        Some(fault) => put_fault(told, Boxed::new(alloc, fault)?.get()),
+        None => put(content, b"ok"),
+        Some(fault) => put_fault(content, Boxed::new(alloc, fault)?.get()),
     }
 }
 
-fn put_fault(told: &mut Vec<u8>, fault: &PolicyFault) -> Result<(), Memory> {
+fn put_fault(content: &mut Vec<u8>, fault: &PolicyFault) -> Result<(), Memory> {
     match fault {
-        PolicyFault::IllegalPolicyName(name) => put_all(told, b"illegal", &[name]),
-        PolicyFault::DuplicatePolicyName(name) => put_all(told, b"duplicate", &[name]),
-        PolicyFault::PolicyTypeMismatch(bad) => put_all(told, b"mismatch", &[&bad.get().name]),
-        PolicyFault::InvalidPolicyValue(bad) => put_all(told, b"invalid", &[&bad.get().name]),
+        PolicyFault::IllegalPolicyName(name) => put_all(content, b"illegal", &[name]),
+        PolicyFault::DuplicatePolicyName(name) => put_all(content, b"duplicate", &[name]),
+        PolicyFault::PolicyTypeMismatch(bad) => put_all(content, b"mismatch", &[&bad.get().name]),
+        PolicyFault::InvalidPolicyValue(bad) => put_all(content, b"invalid", &[&bad.get().name]),
         PolicyFault::Memory => Err(Memory),
     }
 }
 
 /// Tells what policies state.
-pub(crate) fn state(alloc: Global, words: &str, told: &mut Vec<u8>) -> Result<(), Memory> {
+pub(crate) fn state(alloc: Global, words: &str, content: &mut Vec<u8>) -> Result<(), Memory> {
     let stated = stated_of(alloc, words)?;
-    put_stated(alloc, told, stated.get())
+    put_stated(alloc, content, stated.get())
 }
 
 /// The truth values, the numbers and the rule, the names, and the identifier.
-fn put_stated(alloc: Global, told: &mut Vec<u8>, s: &Stated) -> Result<(), Memory> {
+fn put_stated(alloc: Global, content: &mut Vec<u8>, s: &Stated) -> Result<(), Memory> {
     for truth in [s.exact, s.use_dynamic, s.use_modifiable, s.use_proxy] {
-        put_truth(told, truth)?;
+        put_truth(content, truth)?;
     }
     for number in [s.hops, s.match_card, s.return_card, s.search_card] {
-        put_number_stated(alloc, told, number)?;
+        put_number_stated(alloc, content, number)?;
     }
     match s.follow {
-        None => put(told, b"none")?,
-        Some(rule) => put_number_stated(alloc, told, Some(rule.number()))?,
+        None => put(content, b"none")?,
+        Some(rule) => put_number_stated(alloc, content, Some(rule.number()))?,
     }
-    put_sequences(told, s)
+    put_sequences(content, s)
 }
 
-fn put_number_stated(alloc: Global, told: &mut Vec<u8>, number: Option<u32>) -> Result<(), Memory> {
+fn put_number_stated(
+    alloc: Global,
+    content: &mut Vec<u8>,
+    number: Option<u32>,
+) -> Result<(), Memory> {
     match number {
-        None => put(told, b"none"),
-        Some(number) => put_number(alloc, told, Some(number as u64)),
+        None => put(content, b"none"),
+        Some(number) => put_number(alloc, content, Some(number as u64)),
     }
 }
 
-fn put_sequences(told: &mut Vec<u8>, s: &Stated) -> Result<(), Memory> {
+fn put_sequences(content: &mut Vec<u8>, s: &Stated) -> Result<(), Memory> {
     match &s.start {
-        None => put(told, b"none")?,
-        Some(names) => put_names(told, names.as_slice())?,
+        None => put(content, b"none")?,
+        Some(names) => put_names(content, names.as_slice())?,
     }
     match &s.request_id {
-        None => put(told, b"none"),
-        Some(identifier) => put(told, identifier.as_slice()),
+        None => put(content, b"none"),
+        Some(identifier) => put(content, identifier.as_slice()),
     }
 }

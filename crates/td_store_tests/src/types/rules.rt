@@ -51,7 +51,7 @@ pub(crate) fn follow_rules(
     alloc: Global,
     attributes: &mut Attributes,
     words: &str,
-    told: &mut Vec<u8>,
+    content: &mut Vec<u8>,
 ) -> Result<(), Memory> {
     let (maximum, rest) = cut(words);
     let (limiting, third) = cut(rest);
@@ -62,7 +62,7 @@ pub(crate) fn follow_rules(
     let stated = stated_of(alloc, policy.as_str())?;
     put_rules(
         alloc,
-        told,
+        content,
         stated.get(),
         attributes,
         limiting,
@@ -71,7 +71,7 @@ pub(crate) fn follow_rules(
     let unstated = stated_of(alloc, "-")?;
     put_rules(
         alloc,
-        told,
+        content,
         unstated.get(),
         attributes,
         limiting,
@@ -82,7 +82,7 @@ pub(crate) fn follow_rules(
 /// The rule by which a link is followed, and the one that is passed on.
 fn put_rules(
     alloc: Global,
-    told: &mut Vec<u8>,
+    content: &mut Vec<u8>,
     stated: &Stated,
     attributes: &Attributes,
     limiting: FollowOption,
@@ -90,6 +90,6 @@ fn put_rules(
 ) -> Result<(), Memory> {
     let followed = follow(stated, attributes, limiting);
     let passed = pass_on(stated, attributes, limiting, own);
-    put_number(alloc, told, Some(followed.number() as u64))?;
-    put_number(alloc, told, Some(passed.number() as u64))
+    put_number(alloc, content, Some(followed.number() as u64))?;
+    put_number(alloc, content, Some(passed.number() as u64))
 }

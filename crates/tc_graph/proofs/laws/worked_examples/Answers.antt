@@ -1,11 +1,11 @@
 use Rattle.std.proofs.Common.{ℕ, zero, suc, refl, arith}
-use Rattle.tc_graph.specs.Aliases.{bare_within, Chain}
+use Rattle.tc_graph.specs.Aliases.{bare_within, AliasChain}
 use Rattle.tc_graph.specs.Examples.{aliases_in_loop}
 use Rattle.tc_graph.specs.Sameness.{alike}
 use Rattle.tc_graph.proofs.laws.worked_examples.Goals as goal
 
-never-back : (n : ℕ) → (Chain n aliases_in_loop 1 0 → ⊥) × (Chain n aliases_in_loop 2 0 → ⊥)
-unfolding Chain
+never-back : (n : ℕ) → (AliasChain n aliases_in_loop 1 0 → ⊥) × (AliasChain n aliases_in_loop 2 0 → ⊥)
+unfolding AliasChain
 never-back zero = (λ e. omega (arith, e), λ e. omega (arith, e))
 never-back (suc n) = (λ c. (never-back n).1 c.1, λ c. (never-back n).0 c.1)
 
@@ -27,7 +27,7 @@ returns-clause-sameness c = record {
 }
 
 pub returns-clause-aliases : goal.returns-clause-aliases
-unfolding bare_within Chain
+unfolding bare_within AliasChain
 returns-clause-aliases c = record {
   two = refl;
   none = refl;

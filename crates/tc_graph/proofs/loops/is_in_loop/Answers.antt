@@ -2,7 +2,7 @@ use Rattle.std.proofs.Common.{ℕ, suc, ◌≡◌, ◌<◌, ◌≤◌, ◌+◌, 
 use Rattle.std.proofs.lemmas.Bool.{ne_eqb, eq-eqb, cases_lt}
 use Rattle.tc_graph.specs.declared.node.Node.{Node}
 use Rattle.tc_graph.specs.Nodes.{node_at, is_alias, edge}
-use Rattle.tc_graph.specs.Aliases.{Chain}
+use Rattle.tc_graph.specs.Aliases.{AliasChain}
 use Rattle.tc_graph.proofs.BareSteps.{at-node}
 use Rattle.tc_graph.proofs.Chains.{chain-none, chain-more, chain-follow, ends-apart, never-back}
 use Rattle.tc_graph.proofs.loops.is_in_loop.Goals as goal
@@ -36,7 +36,7 @@ returns-then-place-start c =
     let yes : is_alias (node_at g i) ≡ true = ap is_alias e ∙ eq-eqb _ _ c.if-node-ne-ALIAS.false in
     let here : edge (node_at g i) 0 ≡ c.args.start =
     ap (λ (x : Node). edge x 0) e ∙ ap (λ (xs : List ℕ). slice_index xs 0) (sym c.as_slice.ensures) ∙ c.if-place-start.true in
-    let chain : Chain (c.loop-step._step + 1) g c.args.start (edge (node_at g i) 0) =
+    let chain : AliasChain (c.loop-step._step + 1) g c.args.start (edge (node_at g i) 0) =
     chain-more c.loop-step._step g c.args.start i c.loop-step.invariant.chain yes in
     let n : c.loop-step._step + 1 ≡ suc c.loop-step._step = omega arith in
     (λ _. (c.loop-step._step, rw (n, here) at chain), λ _. refl)
@@ -50,7 +50,7 @@ loop-step-preserved c =
     let some : 0 < length (node_at g i).edges = omega (arith, c.requires.closed.aliases i c.loop-step.invariant.within yes) in
     let here : edge (node_at g i) 0 ≡ slice_index c.as_slice.result.now 0 =
     ap (λ (x : Node). edge x 0) e ∙ ap (λ (xs : List ℕ). slice_index xs 0) (sym c.as_slice.ensures) in
-    let chain : Chain (c.loop-step._step + 1) g c.args.start (edge (node_at g i) 0) =
+    let chain : AliasChain (c.loop-step._step + 1) g c.args.start (edge (node_at g i) 0) =
     chain-more c.loop-step._step g c.args.start i c.loop-step.invariant.chain yes in
     record {
       within = rw (← here) (c.requires.closed.within i 0 c.loop-step.invariant.within some);

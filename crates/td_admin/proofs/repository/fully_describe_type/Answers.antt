@@ -3,4 +3,4 @@ use Rattle.td_admin.proofs.repository.fully_describe_type.Goals as goal
 
 pub returns : goal.returns
 unfolding fully_describe_type
-returns c = c.told.ensures _ c.args.store.now.types c.fully_describe.ensures.answer
+returns c = c.outcome_of_reply.ensures _ c.args.store.now.types c.fully_describe.ensures.answer

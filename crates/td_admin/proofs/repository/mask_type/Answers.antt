@@ -1,7 +1,7 @@
 use Rattle.td_ops.specs.declared.call.Change.TheVariants.{MaskType}
 use Rattle.td_ops.specs.declared.outcome.Reply.TheVariants.{Nothing}
 use Rattle.td_types.specs.Calls.{mask_type}
-use Rattle.td_admin.proofs.ChangeAnswers.{masking-told, takes_freely, masks}
+use Rattle.td_admin.proofs.ChangeAnswers.{masking-content, takes_freely, masks}
 use Rattle.td_admin.proofs.Masking.{mask_not_sub_types, mask_not_not_masked}
 use Rattle.td_admin.proofs.repository.mask_type.Goals as goal
 
@@ -22,5 +22,5 @@ returns-in_ok-reply-in-Accepted-clause-accepts c =
     let s = c.args.store.now in
     let name = c.args.name in
     takes_freely (MaskType name) c.args.full s (mask_type s.types name) Nothing c.mask-answer.new.self
-    c.in_ok-reply-in-Accepted.reply c.entry_of.result c.mask-answer.result (masking-told s.types name)
+    c.in_ok-reply-in-Accepted.reply c.entry_of.result c.mask-answer.result (masking-content s.types name)
     c.mask-answer.ensures.answer c.in_ok-reply-in-Accepted.ensures c.if-full.false c.entry_of.ensures

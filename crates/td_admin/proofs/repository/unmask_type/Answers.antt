@@ -1,7 +1,7 @@
 use Rattle.td_ops.specs.declared.call.Change.TheVariants.{UnmaskType}
 use Rattle.td_ops.specs.declared.outcome.Reply.TheVariants.{Nothing}
 use Rattle.td_types.specs.Calls.{unmask_type}
-use Rattle.td_admin.proofs.ChangeAnswers.{unmasking-told, takes_freely, unmasks}
+use Rattle.td_admin.proofs.ChangeAnswers.{unmasking-content, takes_freely, unmasks}
 use Rattle.td_admin.proofs.Masking.{unmask_not_sub_types, unmask_not_already_masked}
 use Rattle.td_admin.proofs.repository.unmask_type.Goals as goal
 
@@ -23,5 +23,5 @@ returns-in_ok-reply-in-Accepted-clause-accepts c =
     let s = c.args.store.now in
     let name = c.args.name in
     takes_freely (UnmaskType name) c.args.full s (unmask_type s.types name) Nothing c.unmask-answer.new.self
-    c.in_ok-reply-in-Accepted.reply c.entry_of.result c.unmask-answer.result (unmasking-told s.types name)
+    c.in_ok-reply-in-Accepted.reply c.entry_of.result c.unmask-answer.result (unmasking-content s.types name)
     c.unmask-answer.ensures.answer c.in_ok-reply-in-Accepted.ensures c.if-full.false c.entry_of.ensures

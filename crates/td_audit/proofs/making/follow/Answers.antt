@@ -9,7 +9,7 @@ returns-in-Some-clause-follows c =
 
 pub loop-preserved : goal.loop-preserved
 loop-preserved c =
-    let goes = rw c.innermost.ensures at c.in_ok-go_on-in-None.ensures.goes in record {
+    let goes = rw c.innermost_call.ensures at c.in_ok-go_on-in-None.ensures.goes in record {
       ahead =
           ahead-on c.args.root c.loop.net c.go_on.new.net c.args.net.now c.loop.text.items c.go_on.new.text.items
           c.args.text.now.items (sym c.in-None.ensures) goes c.loop.invariant.ahead;

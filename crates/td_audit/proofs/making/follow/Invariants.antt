@@ -1,4 +1,4 @@
-use Rattle.td_audit.specs.Events.{IsSound}
+use Rattle.td_audit.specs.Events.{IsWithinLimits}
 use Rattle.td_audit.proofs.Going.{Ahead}
 use Rattle.td_audit.proofs.making.follow.Given as goal
 
@@ -6,5 +6,5 @@ use Rattle.td_audit.proofs.making.follow.Given as goal
 abbrev pub invariant-loop : goal.invariant-loop
 invariant-loop l = record {
   ahead : Ahead l.root l.net l.text.items l.initial.net l.initial.text.items;
-  sound : IsSound l.net;
+  sound : IsWithinLimits l.net;
 }

@@ -9,18 +9,18 @@ use Rattle.td_audit.proofs.making.go_on.Goals as goal
 pub returns-in_ok-put-in-Some-Sent-clause-goes : goal.returns-in_ok-put-in-Some-Sent-clause-goes
 returns-in_ok-put-in-Some-Sent-clause-goes c =
     let is : state_at c.args.net.now.calls c.args.call ≡ Some state.Sent = cc in
-    let told : c.put.new.text.items ≡ c.args.text.now.items ++ deliver_line c.args.call ++ 10 ∷ [] =
+    let content : c.put.new.text.items ≡ c.args.text.now.items ++ deliver_line c.args.call ++ 10 ∷ [] =
     c.in_ok-put-in-Some-Sent.ensures ∙ ap (λ (t : List ℕ). t ++ 10 ∷ []) c.in_ok-put_counted-in-Some-Sent.ensures in
     goes-by c.args.net.now c.take.new.net c.args.call state.Sent (record {
       event = event.Deliver c.args.call;
       line = deliver_line c.args.call;
     })
-    c.args.text.now.items c.put.new.text.items c.take.result is refl told c.take.ensures.accepts
+    c.args.text.now.items c.put.new.text.items c.take.result is refl content c.take.ensures.accepts
 
 pub returns-in_ok-put-in-Some-Evaluating-clause-goes : goal.returns-in_ok-put-in-Some-Evaluating-clause-goes
 returns-in_ok-put-in-Some-Evaluating-clause-goes c =
     let is : state_at c.args.net.now.calls c.args.call ≡ Some state.Evaluating = cc in
-    let told : c.put-in-Some-Evaluating.new.text.items ≡ c.args.text.now.items ++ no_value_line c.args.call ++ 10 ∷ [] =
+    let content : c.put-in-Some-Evaluating.new.text.items ≡ c.args.text.now.items ++ no_value_line c.args.call ++ 10 ∷ [] =
     c.in_ok-put-in-Some-Evaluating.ensures
     ∙ ap (λ (t : List ℕ). t ++ 32 ∷ 45 ∷ 10 ∷ []) c.in_ok-put_counted-in-Some-Evaluating.ensures
     ∙ ends-line c.args.text.now.items (codes "value " ++ decimal c.args.call) (32 ∷ 45 ∷ []) in
@@ -28,17 +28,17 @@ returns-in_ok-put-in-Some-Evaluating-clause-goes c =
       event = event.Value c.args.call None;
       line = no_value_line c.args.call;
     })
-    c.args.text.now.items c.put-in-Some-Evaluating.new.text.items c.take-in-Some-Evaluating.result is refl told
+    c.args.text.now.items c.put-in-Some-Evaluating.new.text.items c.take-in-Some-Evaluating.result is refl content
     c.take-in-Some-Evaluating.ensures.accepts
 
 pub returns-in_ok-put-in-Some-Ended-clause-goes : goal.returns-in_ok-put-in-Some-Ended-clause-goes
 returns-in_ok-put-in-Some-Ended-clause-goes c =
     let is : state_at c.args.net.now.calls c.args.call ≡ Some state.Ended = cc in
-    let told : c.put-in-Some-Ended.new.text.items ≡ c.args.text.now.items ++ answer_line c.args.call ++ 10 ∷ [] =
+    let content : c.put-in-Some-Ended.new.text.items ≡ c.args.text.now.items ++ answer_line c.args.call ++ 10 ∷ [] =
     c.in_ok-put-in-Some-Ended.ensures ∙ ap (λ (t : List ℕ). t ++ 10 ∷ []) c.in_ok-put_counted-in-Some-Ended.ensures in
     goes-by c.args.net.now c.take-in-Some-Ended.new.net c.args.call state.Ended (record {
       event = event.Answer c.args.call;
       line = answer_line c.args.call;
     })
-    c.args.text.now.items c.put-in-Some-Ended.new.text.items c.take-in-Some-Ended.result is refl told
+    c.args.text.now.items c.put-in-Some-Ended.new.text.items c.take-in-Some-Ended.result is refl content
     c.take-in-Some-Ended.ensures.accepts

@@ -5,7 +5,7 @@ use Rattle.td_walk.specs.declared.trace.Address.{Address}
 use Rattle.td_audit.proofs.Going.{AheadAll, all-init, all-more, all-over, all-passed, name-next}
 use Rattle.td_audit.proofs.making.make_log.Goals.{then-is_trader_name+in_ok-ask_trader, else-is_trader_name}
 use Rattle.td_audit.proofs.making.make_log.Goals as goal
-use Rattle.td_audit.specs.Events.{IsSound}
+use Rattle.td_audit.specs.Events.{IsWithinLimits}
 use Rattle.td_audit.specs.Following.{AsksOne}
 
 pub loop-trader-init : goal.loop-trader-init
@@ -15,7 +15,7 @@ loop-trader-init c = record {
       c.new.result c.as_slice-name-items.result.now c.new-text.result.items c.from_vec.ensures c.as_slice.ensures.value
       c.new.ensures c.new-net.ensures (c.as_slice-name-items.ensures ∙ c.in_ok-group.ensures.names)
       c.new-text.ensures.items;
-  sound = subst IsSound (sym c.new-net.ensures) (record { wanting = refl; limits = tt });
+  sound = subst IsWithinLimits (sym c.new-net.ensures) (record { no_memory_outcome = refl; limits = tt });
 }
 
 pub ask_trader-requires-clause-sound : goal.ask_trader-requires-clause-sound
@@ -32,7 +32,7 @@ loop-trader-preserved c =
     (λ (ns : List (List ℕ)). AheadAll traders home c.loop-trader.net i ns c.loop-trader.text.items)
     (name-next c.as_slice-name-items.result.now i name c.loop-trader-test.true c.name-item.is)
     c.loop-trader.invariant.ahead in
-    let told : c.is_trader_name.result ≡ trader_name name =
+    let content : c.is_trader_name.result ≡ trader_name name =
     c.is_trader_name.ensures ∙ ap trader_name c.as_slice-in-loop-trader.ensures in
     elim c.if-is_trader_name.branch [
       | then-is_trader_name+in_ok-ask_trader w ↦
@@ -42,14 +42,14 @@ loop-trader-preserved c =
           rw (w.net-is, w.text-is) (record {
             ahead =
                 all-more traders home c.loop-trader.net w.ask_trader.new.net i name left c.loop-trader.text.items
-                w.ask_trader.new.text.items (sym told ∙ w.if-is_trader_name.true) asks ahead;
+                w.ask_trader.new.text.items (sym content ∙ w.if-is_trader_name.true) asks ahead;
             sound = w.in_ok-ask_trader.ensures.sound;
           })
       | else-is_trader_name w ↦
           rw (w.net-is, w.text-is) (record {
             ahead =
                 all-passed traders home c.loop-trader.net i name left c.loop-trader.text.items
-                (sym told ∙ w.if-is_trader_name.false) ahead;
+                (sym content ∙ w.if-is_trader_name.false) ahead;
             sound = c.loop-trader.invariant.sound;
           })
     ]

@@ -1,5 +1,5 @@
 use Rattle.std.proofs.Common.{drop}
-use Rattle.td_audit.specs.Events.{IsSound}
+use Rattle.td_audit.specs.Events.{IsWithinLimits}
 use Rattle.td_audit.proofs.Going.{AheadAll}
 use Rattle.td_audit.proofs.making.make_log.Given as goal
 
@@ -7,5 +7,5 @@ use Rattle.td_audit.proofs.making.make_log.Given as goal
 abbrev pub invariant-loop-trader : goal.invariant-loop-trader
 invariant-loop-trader l = record {
   ahead : AheadAll l.fn.solo.traders.items l.fn.home l.net l.trader (drop l.trader l.name-items) l.text.items;
-  sound : IsSound l.net;
+  sound : IsWithinLimits l.net;
 }

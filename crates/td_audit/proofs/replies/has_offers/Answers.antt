@@ -1,5 +1,5 @@
 use Rattle.std.proofs.Common.{refl, rules}
-use Rattle.td_codes.specs.declared.reference.Ior.{Ior}
+use Rattle.td_typecode.specs.declared.reference.Ior.{Ior}
 use Rattle.td_iter.specs.Heads.{IsSmallReference, offers_found}
 use Rattle.td_audit.specs.Replies.{found_with}
 use Rattle.td_audit.proofs.Begun.{header_stays}

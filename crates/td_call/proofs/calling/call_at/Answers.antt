@@ -1,6 +1,6 @@
 use Rattle.std.proofs.Common.{sym}
 use Rattle.td_call.specs.Calling.{first_id}
-use Rattle.td_call.specs.Readings.{outcome_told}
+use Rattle.td_call.specs.Readings.{outcome_in_reply}
 use Rattle.td_call.specs.Requests.{request_of}
 use Rattle.td_call.proofs.Concluding.{called_then, unconnected}
 use Rattle.td_call.proofs.Moving.{leaves_over, leaves_unconnected}
@@ -8,32 +8,32 @@ use Rattle.td_call.proofs.calling.call_at.Goals as goal
 
 pub returns-in-Err-clause-called : goal.returns-in-Err-clause-called
 returns-in-Err-clause-called g c =
-    unconnected (outcome_told c.args.call.now) (request_of first_id c.args.profile.now c.args.call.now)
-    c.args.profile.now (g.L.Wire.told c.args.wire.now) (g.L.Wire.told c.connect.new.wire)
+    unconnected (outcome_in_reply c.args.call.now) (request_of first_id c.args.profile.now c.args.call.now)
+    c.args.profile.now (g.L.Wire.content c.args.wire.now) (g.L.Wire.content c.connect.new.wire)
     (g.L.Wire.faults c.args.wire.now)
     (g.L.Wire.faults c.connect.new.wire) c.in-Err.fault c.in-Err.ensures.connected
 
 pub returns-in-Ok-clause-called : goal.returns-in-Ok-clause-called
 returns-in-Ok-clause-called g c =
-    called_then (outcome_told c.args.call.now) (request_of first_id c.args.profile.now c.args.call.now)
-    c.args.profile.now c.in-Ok.framer (g.L.Wire.told c.args.wire.now) (g.L.Wire.told c.connect.new.wire)
-    (g.L.Wire.told c.exchange_call-answer.new.wire) (g.L.Wire.told c.finish.new.wire)
+    called_then (outcome_in_reply c.args.call.now) (request_of first_id c.args.profile.now c.args.call.now)
+    c.args.profile.now c.in-Ok.framer (g.L.Wire.content c.args.wire.now) (g.L.Wire.content c.connect.new.wire)
+    (g.L.Wire.content c.exchange_call-answer.new.wire) (g.L.Wire.content c.finish.new.wire)
     c.exchange_call-answer.new.framer.rest
     (g.L.Wire.faults c.args.wire.now) (g.L.Wire.faults c.connect.new.wire) (g.L.Wire.faults c.finish.new.wire)
     c.exchange_call-answer.result c.in-Ok.ensures.connected c.in-Ok.ensures.later
     (rw (sym c.finish.ensures.faults) at c.exchange_call-answer.ensures.exchanges)
-    c.finish.ensures.told
+    c.finish.ensures.content
 
 pub returns-in-Err-clause-leaves : goal.returns-in-Err-clause-leaves
 returns-in-Err-clause-leaves g c =
     leaves_unconnected (request_of first_id c.args.profile.now c.args.call.now) c.args.profile.now
-    (g.L.Wire.told c.args.wire.now) (g.L.Wire.told c.connect.new.wire) (g.L.Wire.faults c.args.wire.now)
+    (g.L.Wire.content c.args.wire.now) (g.L.Wire.content c.connect.new.wire) (g.L.Wire.faults c.args.wire.now)
     (g.L.Wire.faults c.connect.new.wire) c.in-Err.fault c.in-Err.ensures.connected
 
 pub returns-in-Ok-clause-leaves : goal.returns-in-Ok-clause-leaves
 returns-in-Ok-clause-leaves g c =
     leaves_over (request_of first_id c.args.profile.now c.args.call.now) c.args.profile.now c.in-Ok.framer
-    (g.L.Wire.told c.args.wire.now) (g.L.Wire.told c.connect.new.wire) (g.L.Wire.told c.exchange_call-answer.new.wire)
-    (g.L.Wire.told c.finish.new.wire) (g.L.Wire.faults c.args.wire.now) (g.L.Wire.faults c.connect.new.wire)
+    (g.L.Wire.content c.args.wire.now) (g.L.Wire.content c.connect.new.wire) (g.L.Wire.content c.exchange_call-answer.new.wire)
+    (g.L.Wire.content c.finish.new.wire) (g.L.Wire.faults c.args.wire.now) (g.L.Wire.faults c.connect.new.wire)
     c.in-Ok.ensures.connected c.exchange_call-answer.ensures.moves
-    c.finish.ensures.told
+    c.finish.ensures.content

@@ -1,7 +1,7 @@
 use Rattle.std.proofs.Common.{refl}
 use Rattle.td_call.specs.Calling.{first_id}
 use Rattle.td_call.specs.Moving.{reached, untouched}
-use Rattle.td_call.specs.Readings.{outcome_told}
+use Rattle.td_call.specs.Readings.{outcome_in_reply}
 use Rattle.td_call.specs.Requests.{request_of}
 use Rattle.td_call.proofs.Concluding.{called_of, uncalled}
 use Rattle.td_call.proofs.Moving.{disconnected_at}
@@ -9,16 +9,16 @@ use Rattle.td_call.proofs.calling.call_over.Goals as goal
 
 pub returns-in-Err-clause-called : goal.returns-in-Err-clause-called
 returns-in-Err-clause-called g c =
-    uncalled (outcome_told c.args.call.now)
+    uncalled (outcome_in_reply c.args.call.now)
     (λ p. request_of first_id p c.args.call.now)
-    c.args.target.now (g.L.Wire.told c.args.wire.now) (g.L.Wire.told c.args.wire.now) (g.L.Wire.faults c.args.wire.now)
+    c.args.target.now (g.L.Wire.content c.args.wire.now) (g.L.Wire.content c.args.wire.now) (g.L.Wire.faults c.args.wire.now)
     (g.L.Wire.faults c.args.wire.now) c.in-Err.fault c.in-Err.ensures
 
 pub returns-in-Ok-clause-called : goal.returns-in-Ok-clause-called
 returns-in-Ok-clause-called g c =
-    called_of (outcome_told c.args.call.now)
+    called_of (outcome_in_reply c.args.call.now)
     (λ p. request_of first_id p c.args.call.now)
-    c.args.target.now c.in-Ok.profile (g.L.Wire.told c.args.wire.now) (g.L.Wire.told c.call_at.new.wire)
+    c.args.target.now c.in-Ok.profile (g.L.Wire.content c.args.wire.now) (g.L.Wire.content c.call_at.new.wire)
     (g.L.Wire.faults c.args.wire.now) (g.L.Wire.faults c.call_at.new.wire) c.call_at.result c.in-Ok.ensures
     c.call_at.ensures.called
 

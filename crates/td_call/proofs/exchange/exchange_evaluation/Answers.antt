@@ -1,13 +1,13 @@
 use Rattle.std.proofs.Common.{◌∙◌}
-use Rattle.td_call.specs.Readings.{evaluation_told}
+use Rattle.td_call.specs.Readings.{evaluation_in_reply}
 use Rattle.td_call.proofs.Concluding.{exchanged, unfetched}
 use Rattle.td_call.proofs.exchange.exchange_evaluation.Goals as goal
 
 pub returns-in-Err-clause-exchanges : goal.returns-in-Err-clause-exchanges
 returns-in-Err-clause-exchanges g c =
-    unfetched (evaluation_told c.args.returned.now) c.args.id c.args.request.now c.send.new.framer.rest
+    unfetched (evaluation_in_reply c.args.returned.now) c.args.id c.args.request.now c.send.new.framer.rest
     c.args.framer.now c.send.new.framer
-    (g.L.Wire.told c.args.wire.now) (g.L.Wire.told c.send.new.wire) (g.L.Wire.faults c.args.wire.now)
+    (g.L.Wire.content c.args.wire.now) (g.L.Wire.content c.send.new.wire) (g.L.Wire.faults c.args.wire.now)
     (g.L.Wire.faults c.send.new.wire) c.in-Err.fault
     c.in-Err.ensures.fetches
 

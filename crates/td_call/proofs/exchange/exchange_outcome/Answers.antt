@@ -1,13 +1,13 @@
 use Rattle.std.proofs.Common.{◌∙◌}
-use Rattle.td_call.specs.Readings.{outcome_told}
+use Rattle.td_call.specs.Readings.{outcome_in_reply}
 use Rattle.td_call.proofs.Concluding.{exchanged, unfetched}
 use Rattle.td_call.proofs.exchange.exchange_outcome.Goals as goal
 
 pub returns-in-Err-clause-exchanges : goal.returns-in-Err-clause-exchanges
 returns-in-Err-clause-exchanges g c =
-    unfetched (outcome_told c.args.call.now) c.args.id c.args.request.now c.send.new.framer.rest c.args.framer.now
+    unfetched (outcome_in_reply c.args.call.now) c.args.id c.args.request.now c.send.new.framer.rest c.args.framer.now
     c.send.new.framer
-    (g.L.Wire.told c.args.wire.now) (g.L.Wire.told c.send.new.wire) (g.L.Wire.faults c.args.wire.now)
+    (g.L.Wire.content c.args.wire.now) (g.L.Wire.content c.send.new.wire) (g.L.Wire.faults c.args.wire.now)
     (g.L.Wire.faults c.send.new.wire) c.in-Err.fault
     c.in-Err.ensures.fetches
 

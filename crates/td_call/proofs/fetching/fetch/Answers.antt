@@ -20,7 +20,7 @@ returns-in-Err-take_piece-clause-kept g c =
 
 pub loop-wire-smaller : goal.loop-wire-smaller
 loop-wire-smaller g c =
-    held_closer c.args.framer.now c.loop-wire.framer c.take_piece.new.framer _ _ (g.L.Wire.told c.take_piece.new.wire)
+    held_closer c.args.framer.now c.loop-wire.framer c.take_piece.new.framer _ _ (g.L.Wire.content c.take_piece.new.wire)
     _ _ (g.L.Wire.faults c.take_piece.new.wire) c.loop-wire.invariant.held
     (none_whole c.loop-wire.framer c.in-Ok-false.field-0 c.in-Ok-false.field-0-test c.in-Ok-false.ensures.found)
     (tried_more _ _ _ _ _ (g.L.Wire.faults c.loop-wire.wire) (g.L.Wire.faults c.take_piece.new.wire)
@@ -41,12 +41,12 @@ loop-wire-preserved g c = record {
 
 pub returns-in-Err-take_piece-clause-draws : goal.returns-in-Err-take_piece-clause-draws
 returns-in-Err-take_piece-clause-draws g c =
-    draws_last c.args.framer.now c.loop-wire.framer (g.L.Wire.told c.args.wire.now) (g.L.Wire.told c.loop-wire.wire)
-    (g.L.Wire.told c.take_piece.new.wire) (g.L.Wire.faults c.args.wire.now) (g.L.Wire.faults c.loop-wire.wire)
+    draws_last c.args.framer.now c.loop-wire.framer (g.L.Wire.content c.args.wire.now) (g.L.Wire.content c.loop-wire.wire)
+    (g.L.Wire.content c.take_piece.new.wire) (g.L.Wire.faults c.args.wire.now) (g.L.Wire.faults c.loop-wire.wire)
     c.loop-wire.invariant.held c.take_piece.ensures.draws
 
 pub returns-in-Ok-false-take_piece-clause-draws : goal.returns-in-Ok-false-take_piece-clause-draws
 returns-in-Ok-false-take_piece-clause-draws g c =
-    draws_last c.args.framer.now c.loop-wire.framer (g.L.Wire.told c.args.wire.now) (g.L.Wire.told c.loop-wire.wire)
-    (g.L.Wire.told c.take_piece.new.wire) (g.L.Wire.faults c.args.wire.now) (g.L.Wire.faults c.loop-wire.wire)
+    draws_last c.args.framer.now c.loop-wire.framer (g.L.Wire.content c.args.wire.now) (g.L.Wire.content c.loop-wire.wire)
+    (g.L.Wire.content c.take_piece.new.wire) (g.L.Wire.faults c.args.wire.now) (g.L.Wire.faults c.loop-wire.wire)
     c.loop-wire.invariant.held c.take_piece.ensures.draws

@@ -7,7 +7,7 @@ abbrev pub invariant-loop-wire : goal.invariant-loop-wire
 invariant-loop-wire g l = record {
   same : g.L.Wire.same l.initial.wire l.wire;
   held :
-      Held l.initial.framer l.framer (g.L.Wire.told l.initial.wire) (g.L.Wire.told l.wire)
+      Held l.initial.framer l.framer (g.L.Wire.content l.initial.wire) (g.L.Wire.content l.wire)
       (g.L.Wire.faults l.initial.wire) (g.L.Wire.faults l.wire);
 }
 

@@ -1,5 +1,5 @@
 use Rattle.std.proofs.Common.{subst, sym}
-use Rattle.td_codes.specs.Values.{any_value}
+use Rattle.td_typecode.specs.Values.{any_value}
 use Rattle.td_call.proofs.reading.read_boxed.Goals as goal
 
 pub returns-clause-admitted : goal.returns-clause-admitted

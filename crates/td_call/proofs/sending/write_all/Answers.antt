@@ -15,11 +15,11 @@ pub loop-rest-preserved : goal.loop-rest-preserved
 loop-rest-preserved g c = record {
   same = g.met.L.Wire.same_on _ _ _ c.loop-rest.invariant.same c.write.ensures.same;
   whole =
-      written_more (g.L.Wire.told c.loop-rest.wire) (g.L.Wire.told c.write.new.self) _ c.loop-rest.rest.now _
+      written_more (g.L.Wire.content c.loop-rest.wire) (g.L.Wire.content c.write.new.self) _ c.loop-rest.rest.now _
       c.in_ok-size.size c.split_at.ensures.back c.in_ok-size.ensures.bytes.ok c.loop-rest.invariant.whole;
   sent =
-      sends_more c.args.piece.now c.loop-rest.rest.now _ c.in_ok-size.size (g.L.Wire.told c.args.wire.now)
-      (g.L.Wire.told c.loop-rest.wire) (g.L.Wire.told c.write.new.self) c.loop-rest.invariant.sent
+      sends_more c.args.piece.now c.loop-rest.rest.now _ c.in_ok-size.size (g.L.Wire.content c.args.wire.now)
+      (g.L.Wire.content c.loop-rest.wire) (g.L.Wire.content c.write.new.self) c.loop-rest.invariant.sent
       c.split_at.ensures.back c.in_ok-size.ensures.bytes.ok;
   later =
       let first = c.loop-rest.invariant.later in

@@ -1,6 +1,6 @@
 use Rattle.std.proofs.Common.{Result, IfOk, subst, sym}
-use Rattle.td_codes.specs.References.{reference}
-use Rattle.td_codes.specs.declared.reference.Ior.{Ior}
+use Rattle.td_typecode.specs.References.{reference}
+use Rattle.td_typecode.specs.declared.reference.Ior.{Ior}
 use Rattle.td_walk.specs.declared.fault.PeerFault.{PeerFault}
 use Rattle.td_client.proofs.noting.note_reference.Goals as goal
 

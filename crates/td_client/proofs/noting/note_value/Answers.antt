@@ -1,6 +1,6 @@
 use Rattle.std.proofs.Common.{◌∙◌, Result, IfOk, subst, sym}
-use Rattle.td_codes.specs.Values.{any_value}
-use Rattle.td_codes.specs.declared.code.Any.{Any}
+use Rattle.td_typecode.specs.Values.{any_value}
+use Rattle.td_typecode.specs.declared.code.Any.{Any}
 use Rattle.td_walk.specs.declared.fault.PeerFault.{PeerFault}
 use Rattle.td_client.proofs.noting.note_value.Goals as goal
 

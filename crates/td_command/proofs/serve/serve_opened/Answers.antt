@@ -1,6 +1,6 @@
 use Rattle.std.proofs.Common.{ℕ, List, [], refl, ap, ◌∙◌}
 use Rattle.td_file.specs.Files.{seen}
-use Rattle.td_reply.specs.Linking.{peers_seen}
+use Rattle.td_servant.specs.Linking.{peers_seen}
 use Rattle.td_walk.specs.Peering.{Exchange}
 use Rattle.td_command.proofs.Serving.{begun}
 use Rattle.td_command.proofs.serve.serve_opened.Goals as goal

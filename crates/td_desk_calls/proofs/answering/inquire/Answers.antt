@@ -2,8 +2,8 @@ use Rattle.std.proofs.Common.{List, ℕ, subst}
 use Rattle.td_cell.specs.Passes.{knowledge}
 use Rattle.td_desk.specs.declared.event.Event.TheVariants.{Left}
 use Rattle.td_desk_calls.proofs.Calling.{has_place_by, inquiry_answers, left_fails, left_has_place, serves_fault}
-use Rattle.td_desk_calls.specs.Serving.{Answers, ServesIterator}
-use Rattle.td_desk_calls.specs.declared.judging.Asked.TheVariants.{Inquire}
+use Rattle.td_desk_calls.specs.Serving.{AnswersDeskCall, ServesIterator}
+use Rattle.td_desk_calls.specs.declared.judging.IteratorRequest.TheVariants.{Inquire}
 use Rattle.td_desk_calls.proofs.answering.inquire.Goals as goal
 
 pub last_place-requires : goal.last_place-requires
@@ -20,7 +20,7 @@ answer_fault-requires-clause-absent g c =
 
 pub returns-in-Ok-clause-serves : goal.returns-in-Ok-clause-serves
 returns-in-Ok-clause-serves g c =
-    subst (λ (x : List ℕ). Answers c.args.call.now.to x c.args.call.now.number (knowledge c.args.pass.now)
+    subst (λ (x : List ℕ). AnswersDeskCall c.args.call.now.to x c.args.call.now.number (knowledge c.args.pass.now)
     (Inquire c.args.inquiry) c.answer.new.self c.last_place.result (knowledge c.max_left.new.pass)) c.requires.trader
     (inquiry_answers c.args.trader c.args.call.now.number (knowledge c.args.pass.now) (knowledge c.max_left.new.pass)
     c.args.call.now.to c.answer.new.self c.args.inquiry c.in-Ok.found c.inquiry_outcome-outcome.result

@@ -1,9 +1,9 @@
 use Rattle.std.proofs.Common.{◌<◌, length, arith, rules}
 use Rattle.td_fed.proofs.Moving.{goes-after}
 use Rattle.td_fed.proofs.Resolved.{follows-so, is-inside, other-words}
-use Rattle.td_places.proofs.Within.{register-inside-within}
+use Rattle.td_targets.proofs.Within.{register-inside-within}
 use Rattle.td_fed.proofs.resolving.+follow.Goals as goal
-use Rattle.td_walk_laws.proofs.Counting.{counted-on}
+use Rattle.td_query_walk.proofs.Counting.{counted-on}
 
 pub returns-in_ok-answer-in-Inside-clause-follows : goal.returns-in_ok-answer-in-Inside-clause-follows
 returns-in_ok-answer-in-Inside-clause-follows g t c =

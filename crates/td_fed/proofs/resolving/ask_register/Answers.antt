@@ -3,7 +3,7 @@ use Rattle.td_fed.proofs.Resolved.{was-given, was-ungiven}
 use Rattle.td_fed.proofs.resolving.ask_register.Goals as goal
 use Rattle.td_fed.specs.Resolving.{IsAskedFor, IsUngiven}
 use Rattle.td_walk.specs.Peering.{Resolving}
-use Rattle.td_walk_laws.proofs.Counting.{register-counted}
+use Rattle.td_query_walk.proofs.Counting.{register-counted}
 
 pub returns-in-Ok-clause-asks : goal.returns-in-Ok-clause-asks
 returns-in-Ok-clause-asks g c =

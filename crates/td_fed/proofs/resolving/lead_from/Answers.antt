@@ -1,5 +1,5 @@
 use Rattle.std.proofs.Common.{Option, subst}
-use Rattle.td_codes.specs.declared.reference.Ior.{Ior}
+use Rattle.td_typecode.specs.declared.reference.Ior.{Ior}
 use Rattle.td_fed.proofs.Resolved.{is-unknown}
 use Rattle.td_fed.proofs.resolving.lead_from.Goals as goal
 use Rattle.td_fed.specs.Resolving.{LooksUp}

@@ -1,7 +1,7 @@
 use Rattle.std.proofs.Common.{◌≡◌, ◌<◌, None, length, rules, sym, ◌∙◌}
 use Rattle.td_fed.proofs.Resolved.{is-named, is-outside, none-left}
 use Rattle.td_fed.proofs.resolving.lead_over.Goals as goal
-use Rattle.td_places.specs.Targets.{register_inside}
+use Rattle.td_targets.specs.Targets.{register_inside}
 
 pub returns-then-is_empty-clause-leads : goal.returns-then-is_empty-clause-leads
 returns-then-is_empty-clause-leads g c = λ w k name looks seen.

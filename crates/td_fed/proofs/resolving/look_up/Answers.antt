@@ -4,17 +4,17 @@ use Rattle.td_fed.proofs.Quiet.{quiet-looked}
 use Rattle.td_fed.proofs.Resolved.{looks-up}
 use Rattle.td_fed.proofs.resolving.look_up.Goals as goal
 use Rattle.td_ops.specs.declared.call.Look.TheVariants.{DescribeLink}
-use Rattle.td_trader.specs.Worlds.{Looks}
+use Rattle.td_trader.specs.Worlds.{LooksAtTrader}
 
 pub returns-clause-looks : goal.returns-clause-looks
 returns-clause-looks g c =
     let w = g.T.Traders.world c.args.traders.now in
     let u = g.T.Traders.world c.look.new.self in
     looks-up g.T.Traders.others g.T.Traders.later w u c.args.trader c.args.name.now
-    (c.in_ok-outcome.outcome, c.in_ok-outcome._most) c.told_register.result c.requires.word
-    (subst (λ (n : List ℕ). Looks g.T.Traders.others g.T.Traders.later w c.args.trader (DescribeLink n)
+    (c.in_ok-outcome.outcome, c.in_ok-outcome._most) c.register_in_outcome.result c.requires.word
+    (subst (λ (n : List ℕ). LooksAtTrader g.T.Traders.others g.T.Traders.later w c.args.trader (DescribeLink n)
     (c.in_ok-outcome.outcome, c.in_ok-outcome._most) u) c.in_ok-name.ensures c.in_ok-outcome.ensures.ok)
-    c.told_register.ensures
+    c.register_in_outcome.ensures
 
 pub returns-clause-quiet : goal.returns-clause-quiet
 returns-clause-quiet g c =

@@ -2,9 +2,9 @@ use Rattle.td_fed.proofs.Called.{on-err}
 use Rattle.td_fed.proofs.Beginnings.{asked-so-far, turn-so-far}
 use Rattle.td_fed.proofs.Stacked.{one-asks, turn-answered, turn-opened}
 use Rattle.td_fed.proofs.visiting.ask_innermost.Goals as goal
-use Rattle.td_places.specs.Targets.{inside_group}
-use Rattle.td_fed.specs.Visiting.{Begins, course}
-use Rattle.td_fed.specs.declared.asking.Asking.TheVariants.{Answered, Open}
+use Rattle.td_targets.specs.Targets.{inside_group}
+use Rattle.td_fed.specs.Visiting.{BeginsVisit, course}
+use Rattle.td_fed.specs.declared.outside.Asking.TheVariants.{Answered, Open}
 use Rattle.td_trader.specs.Worlds.{Watches}
 
 pub answer_innermost-requires : goal.answer_innermost-requires
@@ -12,7 +12,7 @@ answer_innermost-requires g c = one-asks c.args.stack.now.items c.args.question 
 
 pub returns-in-Answered-clause-turns : goal.returns-in-Answered-clause-turns
 returns-in-Answered-clause-turns g c = λ words.
-    turn-answered (Begins g.T.Traders.others g.T.Traders.later) (inside_group c.args.home.now)
+    turn-answered (BeginsVisit g.T.Traders.others g.T.Traders.later) (inside_group c.args.home.now)
     (course (g.T.Traders.world c.args.traders.now) words (g.P.Peers.calls c.args.peers.now))
     c.args.stack.now.items c.args.question c.requires.asks c.in-Answered.answer
     (course (g.T.Traders.world c.ask.new.traders) words (g.P.Peers.calls c.ask.new.peers))
@@ -21,7 +21,7 @@ returns-in-Answered-clause-turns g c = λ words.
 
 pub returns-in-Open-clause-turns : goal.returns-in-Open-clause-turns
 returns-in-Open-clause-turns g c = λ words.
-    turn-opened (Begins g.T.Traders.others g.T.Traders.later) (inside_group c.args.home.now)
+    turn-opened (BeginsVisit g.T.Traders.others g.T.Traders.later) (inside_group c.args.home.now)
     (course (g.T.Traders.world c.args.traders.now) words (g.P.Peers.calls c.args.peers.now))
     c.args.stack.now.items c.args.question c.requires.asks c.in-Open.visit
     (course (g.T.Traders.world c.ask.new.traders) words (g.P.Peers.calls c.ask.new.peers))
@@ -31,7 +31,7 @@ returns-in-Open-clause-turns g c = λ words.
 
 pub returns-in_err-answer-clause-so_far : goal.returns-in_err-answer-clause-so_far
 returns-in_err-answer-clause-so_far g c = λ words.
-    on-err _ (turn-so-far (Begins g.T.Traders.others g.T.Traders.later) (Watches g.T.Traders.others g.T.Traders.later)
+    on-err _ (turn-so-far (BeginsVisit g.T.Traders.others g.T.Traders.later) (Watches g.T.Traders.others g.T.Traders.later)
     (inside_group c.args.home.now)
     (course (g.T.Traders.world c.args.traders.now) words (g.P.Peers.calls c.args.peers.now))
     (course (g.T.Traders.world c.ask.new.traders) words (g.P.Peers.calls c.ask.new.peers))
@@ -40,7 +40,7 @@ returns-in_err-answer-clause-so_far g c = λ words.
 
 pub returns-in-Answered-clause-so_far : goal.returns-in-Answered-clause-so_far
 returns-in-Answered-clause-so_far g c = λ words.
-    asked-so-far (Begins g.T.Traders.others g.T.Traders.later) (Watches g.T.Traders.others g.T.Traders.later)
+    asked-so-far (BeginsVisit g.T.Traders.others g.T.Traders.later) (Watches g.T.Traders.others g.T.Traders.later)
     (inside_group c.args.home.now)
     (course (g.T.Traders.world c.args.traders.now) words (g.P.Peers.calls c.args.peers.now))
     (course (g.T.Traders.world c.ask.new.traders) words (g.P.Peers.calls c.ask.new.peers))
@@ -50,7 +50,7 @@ returns-in-Answered-clause-so_far g c = λ words.
 
 pub returns-in-Open-clause-so_far : goal.returns-in-Open-clause-so_far
 returns-in-Open-clause-so_far g c = λ words.
-    asked-so-far (Begins g.T.Traders.others g.T.Traders.later) (Watches g.T.Traders.others g.T.Traders.later)
+    asked-so-far (BeginsVisit g.T.Traders.others g.T.Traders.later) (Watches g.T.Traders.others g.T.Traders.later)
     (inside_group c.args.home.now)
     (course (g.T.Traders.world c.args.traders.now) words (g.P.Peers.calls c.args.peers.now))
     (course (g.T.Traders.world c.ask.new.traders) words (g.P.Peers.calls c.ask.new.peers))

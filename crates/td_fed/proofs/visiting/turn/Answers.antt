@@ -5,11 +5,11 @@ use Rattle.td_fed.proofs.Moving.{draws-none, goes-none}
 use Rattle.td_fed.proofs.Showing.{shown-none}
 use Rattle.td_fed.proofs.Stacked.{turn-closes}
 use Rattle.td_fed.proofs.visiting.turn.Goals as goal
-use Rattle.td_places.specs.Targets.{inside_group}
-use Rattle.td_fed.specs.Turning.{IsTurn, IsTurnSoFar}
-use Rattle.td_fed.specs.Visiting.{Begins, course}
+use Rattle.td_targets.specs.Targets.{inside_group}
+use Rattle.td_fed.specs.Turning.{IsWalkTurn, IsTurnSoFar}
+use Rattle.td_fed.specs.Visiting.{BeginsVisit, course}
 use Rattle.td_trader.specs.Worlds.{Watches}
-use Rattle.td_visit.specs.Standing.{Standing as Frame}
+use Rattle.td_visit.specs.Standing.{FrameState as Frame}
 
 pub returns-in_err-question-clause-shown : goal.returns-in_err-question-clause-shown
 returns-in_err-question-clause-shown g c =
@@ -21,10 +21,10 @@ returns-in-Done-clause-turns g c =
     let calls = g.P.Peers.calls c.args.peers.now in
     let s = course w (g.W.Words.word c.args.words.now) calls in
     let u = course w (g.W.Words.word c.end_innermost.new.words) calls in
-    subst (λ (fs : List Frame). IfOk c.end_innermost.result (λ v. IsTurn (Begins g.T.Traders.others g.T.Traders.later)
+    subst (λ (fs : List Frame). IfOk c.end_innermost.result (λ v. IsWalkTurn (BeginsVisit g.T.Traders.others g.T.Traders.later)
     (inside_group c.args.home.now) s fs v c.end_innermost.new.stack.items c.args.notes.now.items
     c.end_innermost.new.notes.items u)) c.next_of_innermost.ensures.kept
-    (turn-closes (Begins g.T.Traders.others g.T.Traders.later) (inside_group c.args.home.now) s u
+    (turn-closes (BeginsVisit g.T.Traders.others g.T.Traders.later) (inside_group c.args.home.now) s u
     c.next_of_innermost.new.stack.items c.end_innermost.new.stack.items c.args.notes.now.items
     c.end_innermost.new.notes.items c.end_innermost.result (c.end_innermost.ensures.closes w calls)
     c.end_innermost.ensures.noted)
@@ -46,7 +46,7 @@ returns-in_ok-ask_innermost-in_default-clause-draws g c = draws-none (g.W.Words.
 pub returns-in_err-question-clause-so_far : goal.returns-in_err-question-clause-so_far
 returns-in_err-question-clause-so_far g c =
     on-err _
-    (turned-nothing (Begins g.T.Traders.others g.T.Traders.later) (Watches g.T.Traders.others g.T.Traders.later)
+    (turned-nothing (BeginsVisit g.T.Traders.others g.T.Traders.later) (Watches g.T.Traders.others g.T.Traders.later)
     (inside_group c.args.home.now)
     (course (g.T.Traders.world c.args.traders.now) (g.W.Words.word c.args.words.now)
     (g.P.Peers.calls c.args.peers.now)) c.args.stack.now.items c.args.notes.now.items)
@@ -57,10 +57,10 @@ returns-in-Done-clause-so_far g c =
     let calls = g.P.Peers.calls c.args.peers.now in
     let s = course w (g.W.Words.word c.args.words.now) calls in
     let u = course w (g.W.Words.word c.end_innermost.new.words) calls in
-    subst (λ (fs : List Frame). OnErr c.end_innermost.result (IsTurnSoFar (Begins g.T.Traders.others
+    subst (λ (fs : List Frame). OnErr c.end_innermost.result (IsTurnSoFar (BeginsVisit g.T.Traders.others
     g.T.Traders.later) (Watches g.T.Traders.others g.T.Traders.later) (inside_group c.args.home.now) s fs
     c.args.notes.now.items c.end_innermost.new.notes.items u)) c.next_of_innermost.ensures.kept
-    (turn-closes-so-far (Begins g.T.Traders.others g.T.Traders.later) (Watches g.T.Traders.others g.T.Traders.later)
+    (turn-closes-so-far (BeginsVisit g.T.Traders.others g.T.Traders.later) (Watches g.T.Traders.others g.T.Traders.later)
     (inside_group c.args.home.now) s u c.next_of_innermost.new.stack.items c.args.notes.now.items
     c.end_innermost.new.notes.items c.end_innermost.result (c.end_innermost.ensures.so_far w calls))
 
@@ -76,7 +76,7 @@ returns-in_err-ask_innermost-in_default-clause-so_far g c =
     course (g.T.Traders.world c.ask_innermost.new.traders) (g.W.Words.word c.args.words.now)
     (g.P.Peers.calls c.ask_innermost.new.peers) in
     on-err _
-    (subst (λ (fs : List Frame). IsTurnSoFar (Begins g.T.Traders.others g.T.Traders.later)
+    (subst (λ (fs : List Frame). IsTurnSoFar (BeginsVisit g.T.Traders.others g.T.Traders.later)
     (Watches g.T.Traders.others g.T.Traders.later) (inside_group c.args.home.now) s fs c.args.notes.now.items
     c.ask_innermost.new.notes.items u) c.next_of_innermost.ensures.kept
     (c.in_err-ask_innermost-in_default.ensures.so_far (g.W.Words.word c.args.words.now)))

@@ -4,8 +4,8 @@ use Rattle.td_fed.proofs.Going.{begun-so-far, goes-further, going-first, is-less
 use Rattle.td_fed.proofs.Moving.{draws-after, draws-none, goes-after, goes-none}
 use Rattle.td_fed.proofs.Showing.{shown-none, shown-on}
 use Rattle.td_fed.proofs.visiting.walk_on.Goals as goal
-use Rattle.td_fed.specs.declared.entering.Entry.TheVariants.{Open}
-use Rattle.td_walk_laws.proofs.Counting.{counted-none, counted-on}
+use Rattle.td_fed.specs.declared.entering.VisitStart.TheVariants.{Open}
+use Rattle.td_query_walk.proofs.Counting.{counted-none, counted-on}
 
 pub returns-in_err-push-clause-shown : goal.returns-in_err-push-clause-shown
 returns-in_err-push-clause-shown g c =

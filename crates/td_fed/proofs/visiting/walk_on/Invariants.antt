@@ -1,7 +1,7 @@
 use Rattle.td_fed.proofs.Going.{Going}
 use Rattle.td_fed.proofs.Measures.{measure_all, most}
 use Rattle.td_fed.proofs.visiting.walk_on.Given as goal
-use Rattle.td_walk_laws.specs.Faults.{CountsFaults}
+use Rattle.td_query_walk.specs.Faults.{CountsFaults}
 
 -- the traders, peers and words are the same still, and so far the walk has come
 abbrev pub invariant-turns : goal.invariant-turns

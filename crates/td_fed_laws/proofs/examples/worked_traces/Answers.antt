@@ -1,7 +1,7 @@
 use Rattle.std.proofs.Common.{◌≤◌, ℕ, [], ◌∷◌, refl, inl, inr, take, drop, true≢false, sym, arith}
 use Rattle.td_cdr.specs.Marks.{In}
 use Rattle.td_fed_laws.specs.Examples.{cycle}
-use Rattle.td_fed_laws.specs.Traces.{HasSearch, IsSearched}
+use Rattle.td_fed_laws.specs.Traces.{HasSearch, IsSearchedInTrace}
 use Rattle.td_fed_laws.proofs.examples.worked_traces.Goals as goal
 use Rattle.td_walk.specs.declared.trace.TraceItem.TheVariants as item
 
@@ -13,7 +13,7 @@ not-there point mark (inr h) = elim h [ ]
 not-searched : (mark : ℕ) → HasSearch (item.Search 0 0 1 ∷ []) 1 mark → ⊥
 not-searched mark h = not-there h.point mark h.there
 
-searched : IsSearched (item.Search 0 0 1 ∷ []) 0
+searched : IsSearchedInTrace (item.Search 0 0 1 ∷ []) 0
 searched = record { mark = 1; search = record { point = 0; there = inl refl } }
 
 pub returns : goal.returns

@@ -1,4 +1,4 @@
-use Rattle.td_places.specs.Targets.{inside_group}
+use Rattle.td_targets.specs.Targets.{inside_group}
 use Rattle.td_fed_laws.proofs.Leading.{fresh-right}
 use Rattle.td_fed_laws.proofs.Noting.{named-search, repeats-exactly}
 use Rattle.td_fed_laws.proofs.walks.repeats_name_an_earlier_search.Goals as goal

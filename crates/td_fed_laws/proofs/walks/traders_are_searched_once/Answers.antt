@@ -1,4 +1,4 @@
-use Rattle.td_places.specs.Targets.{inside_group}
+use Rattle.td_targets.specs.Targets.{inside_group}
 use Rattle.td_fed_laws.proofs.Leading.{fresh-right}
 use Rattle.td_fed_laws.proofs.Noting.{searched-once}
 use Rattle.td_fed_laws.proofs.walks.traders_are_searched_once.Goals as goal

@@ -1,6 +1,6 @@
 use Rattle.std.proofs.Common.{rules, ◌≡◌, Ok}
 use Rattle.td_cdr.specs.Format.{array_format}
-use Rattle.td_giop.specs.Heads.{context, passed}
+use Rattle.td_giop.specs.Heads.{context, skip_value}
 use Rattle.td_giop.proofs.Passing.{goes_on}
 use Rattle.td_giop.proofs.head.pass_row.Goals as goal
 
@@ -11,5 +11,5 @@ loop-turn-preserved c =
     search rules in
     goes_on context.format c.args.count c.loop-turn.turn c.loop-turn.r c.octets.new.self
     (c.in_ok-_id._id, c.in_ok-_octets._octets.now)
-    (passed ((array_format context.format c.args.count).reads c.args.r.now)) c.loop-turn-test.true read
+    (skip_value ((array_format context.format c.args.count).reads c.args.r.now)) c.loop-turn-test.true read
     c.loop-turn.invariant

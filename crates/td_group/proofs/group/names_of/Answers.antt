@@ -1,6 +1,6 @@
 use Rattle.std.proofs.Common.{subst}
 use Rattle.std.proofs.lemmas.List.Elements.{All-more}
-use Rattle.td_group.specs.Soundness.{IsSound}
+use Rattle.td_group.specs.Soundness.{IsLegalTrader}
 use Rattle.td_group.proofs.Closed.{name_more}
 use Rattle.td_group.proofs.group.names_of.Goals as goal
 
@@ -11,6 +11,6 @@ loop-trader-preserved c =
     let t = c.trader-item.result in (
       name_more ts k t _ _ _ c.loop-trader-test.true c.trader-item.is c.in_ok-name.ensures.name
           c.in_ok-push.ensures.items c.loop-trader.invariant.0,
-      All-more IsSound ts k t c.loop-trader-test.true c.loop-trader.invariant.1 (subst IsSound c.trader-item.is
+      All-more IsLegalTrader ts k t c.loop-trader-test.true c.loop-trader.invariant.1 (subst IsLegalTrader c.trader-item.is
           c.name_of.ensures.sound),
     )

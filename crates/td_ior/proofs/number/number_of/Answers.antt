@@ -13,7 +13,7 @@ returns-in_default c =
 
 pub returns : goal.returns
 returns c =
-    let told : ParsesUnsigned 64 10 c.args.word.now c.parse.result =
+    let content : ParsesUnsigned 64 10 c.args.word.now c.parse.result =
     rw c.in-Ok.ensures.cases.0 at c.parse.ensures.value.0 in
     c.ok.ensures.value ∙ parsed c.args.word.now c.parse.result (sym c.is_numeral.ensures ∙ c.if-not-is_numeral.false)
-    told
+    content

@@ -1,5 +1,5 @@
 use Rattle.std.proofs.Common.{List, ◌∷◌, [], ◌++◌, ap, ◌∙◌, arith}
-use Rattle.td_codes.specs.declared.reference.Profile.{Profile}
+use Rattle.td_typecode.specs.declared.reference.Profile.{Profile}
 use Rattle.td_ior.specs.Profiles.{iiop_tag}
 use Rattle.td_ior.proofs.Profiles.{made-back}
 use Rattle.td_ior.proofs.profile.make_ior.Goals as goal

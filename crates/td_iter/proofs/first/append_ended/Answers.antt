@@ -1,5 +1,5 @@
 use Rattle.std.proofs.Common.{Bool, ◌++◌, ◌%◌, length, drop, ap, ◌∙◌, arith}
-use Rattle.td_codes.specs.Formats.{is_some}
+use Rattle.td_typecode.specs.Formats.{is_nonempty}
 use Rattle.td_value.specs.Structures.{offer}
 use Rattle.td_iter.specs.Heads.{given_or_nil, nil}
 use Rattle.td_iter.proofs.Endings.{first-puts, ending, ending-aligned, ending-short, nil-small}
@@ -37,4 +37,4 @@ returns-clause-puts c =
     (length old.bytes) aligned aligned size size c.in_ok-size.ensures.same c.in_ok-size.ensures.order
     c.in_ok-count.ensures.fills c.in_ok-count.ensures.order
     (c.in_ok-put_two.ensures.done ∙ ap (λ r. now.bytes ++ ending limits r now.order (length now.bytes))
-    (c.nil-none.ensures ∙ always-nil (is_some (drop c.in_ok-count.count c.args.offers.now))))
+    (c.nil-none.ensures ∙ always-nil (is_nonempty (drop c.in_ok-count.count c.args.offers.now))))

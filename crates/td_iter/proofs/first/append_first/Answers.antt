@@ -1,5 +1,5 @@
 use Rattle.std.proofs.Common.{Bool, ◌++◌, ◌%◌, length, nat_lt, sym, ap, ◌∙◌, arith}
-use Rattle.td_codes.specs.References.{reference}
+use Rattle.td_typecode.specs.References.{reference}
 use Rattle.td_iter.specs.Heads.{given_or_nil, nil}
 use Rattle.td_iter.proofs.Loading.{some-left}
 use Rattle.td_iter.proofs.Endings.{first-puts, reference-short, nil-small, picked}

@@ -1,7 +1,7 @@
 use Rattle.std.proofs.Common.{List, ℕ, sym}
 use Rattle.td_giop.specs.declared.header.Header.{Header}
 use Rattle.td_giop.specs.declared.message_type.TheConstants.{REPLY}
-use Rattle.td_log.proofs.Framed.{alone-is, bad-alone, found-none, found-one, none-alone, told-as}
+use Rattle.td_log.proofs.Framed.{alone-is, bad-alone, found-none, found-one, none-alone, content-as}
 use Rattle.td_log.specs.Messages.{reply_in, reply_of}
 use Rattle.td_ops.specs.Called.{operation_in}
 use Rattle.td_log.proofs.replies.front_reply.Goals as goal
@@ -9,7 +9,7 @@ use Rattle.td_log.proofs.replies.front_reply.Goals as goal
 pub returns-in-Ok-Some : goal.returns-in-Ok-Some
 unfolding reply_of
 returns-in-Ok-Some c =
-    told-as c.reply_alone.result _ (reply_of (operation_in c.args.call.now) c.args.framer.now.rest)
+    content-as c.reply_alone.result _ (reply_of (operation_in c.args.call.now) c.args.framer.now.rest)
     (alone-is REPLY (λ (bytes : List ℕ) (h : Header). reply_in (operation_in c.args.call.now) h.order bytes)
     c.args.framer.now c.in-Ok-Some.message c.requires.limit
     (found-one c.args.framer.now c.in-Ok-Some.field-0 c.in-Ok-Some.message c.in-Ok-Some.field-0-is

@@ -1,14 +1,14 @@
 use Rattle.std.proofs.Common.{List, ℕ, sym}
 use Rattle.td_giop.specs.declared.header.Header.{Header}
 use Rattle.td_giop.specs.declared.message_type.TheConstants.{REQUEST}
-use Rattle.td_log.proofs.Framed.{alone-is, bad-alone, found-none, found-one, none-alone, told-as}
+use Rattle.td_log.proofs.Framed.{alone-is, bad-alone, found-none, found-one, none-alone, content-as}
 use Rattle.td_log.specs.Messages.{request_in, request_of}
 use Rattle.td_log.proofs.requests.front_request.Goals as goal
 
 pub returns-in-Ok-Some : goal.returns-in-Ok-Some
 unfolding request_of
 returns-in-Ok-Some c =
-    told-as c.request_alone.result _ (request_of c.args.name.now c.args.framer.now.rest)
+    content-as c.request_alone.result _ (request_of c.args.name.now c.args.framer.now.rest)
     (alone-is REQUEST (λ (bytes : List ℕ) (h : Header). request_in c.args.name.now h.order h.minor bytes)
     c.args.framer.now c.in-Ok-Some.message c.requires.limit
     (found-one c.args.framer.now c.in-Ok-Some.field-0 c.in-Ok-Some.message c.in-Ok-Some.field-0-is

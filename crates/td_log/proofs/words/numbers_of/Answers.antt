@@ -1,5 +1,5 @@
 use Rattle.std.proofs.Common.{◌≡◌, List, ℕ, subst, sym}
-use Rattle.td_log.proofs.Framed.{told-as}
+use Rattle.td_log.proofs.Framed.{content-as}
 use Rattle.td_log.proofs.Numbers.{behind, numbers-end, numbers-next, numbers-stop}
 use Rattle.td_log.specs.Words.{numbers_of}
 use Rattle.td_log.proofs.words.numbers_of.Goals as goal
@@ -18,7 +18,7 @@ words-preserved c =
 
 pub returns-in-None : goal.returns-in-None
 returns-in-None c =
-    told-as c.last_number.result _ (numbers_of c.args.text.now)
+    content-as c.last_number.result _ (numbers_of c.args.text.now)
     (numbers-end c.words.numbers c.words.rest.now (numbers_of c.args.text.now) (sym c.in-None.ensures.cut)
     c.words.invariant)
     c.last_number.ensures

@@ -12,7 +12,7 @@ pub returns-in_err-check_name : goal.returns-in_err-check_name
 returns-in_err-check_name c = λ deleted h.
     let p = err_from_is_err_and c.from_residual.result c.from_residual.ensures.1 in
     let met = met_with deleted c.args.changed.now c.loop-property.property-index in
-    let demanded = c.args.demanded.now in
+    let demanded = c.args.type_properties.now in
     let o = c.args.offer.now in
     let q = c.property-item.result in
     let so_far = c.loop-property.invariant deleted h in
@@ -27,7 +27,7 @@ returns-in_err-check_value c = λ deleted h.
     let p =
     err_from_is_err_and c.from_residual-in_err-check_value.result c.from_residual-in_err-check_value.ensures.1 in
     let met = met_with deleted c.args.changed.now c.loop-property.property-index in
-    let demanded = c.args.demanded.now in
+    let demanded = c.args.type_properties.now in
     let o = c.args.offer.now in
     let q = c.property-item.result in
     let f = c.in_err-check_value.field-0.0 in
@@ -46,7 +46,7 @@ returns-in_err-check_readonly c = λ deleted h.
     err_from_is_err_and c.from_residual-in_err-check_readonly.result
     c.from_residual-in_err-check_readonly.ensures.1 in
     let met = met_with deleted c.args.changed.now c.loop-property.property-index in
-    let demanded = c.args.demanded.now in
+    let demanded = c.args.type_properties.now in
     let o = c.args.offer.now in
     let q = c.property-item.result in
     let f = c.in_err-check_readonly.field-0.0 in
@@ -66,7 +66,7 @@ loop-property-preserved c = λ deleted h.
       seen_change c.check_name.new.seen deleted c.args.changed.now c.loop-property.property-index
           c.property-item.result c.loop-property-test.true c.property-item.is
           (c.in_ok-check_name.ensures.noted met so_far.0),
-      change_passes c.args.supported c.args.demanded.now c.args.offer.now deleted c.args.changed.now
+      change_passes c.args.supported c.args.type_properties.now c.args.offer.now deleted c.args.changed.now
           c.loop-property.property-index c.property-item.result c.loop-property-test.true c.property-item.is
           (c.in_ok-check_name.ensures.judged met so_far.0) (rw c.deref.ensures at c.in_ok-check_value.ensures)
           c.in_ok-check_readonly.ensures so_far.1,
@@ -76,5 +76,5 @@ pub returns : goal.returns
 returns c = λ deleted h.
     let met = met_with deleted c.args.changed.now c.loop-property.property-index in
     sym (c.loop-property.invariant deleted h).1
-    ∙ at_drop_all (changes_cause c.args.supported c.args.demanded.now c.args.offer.now met) c.args.changed.now
+    ∙ at_drop_all (changes_cause c.args.supported c.args.type_properties.now c.args.offer.now met) c.args.changed.now
     c.loop-property.property-index (omega arith)

@@ -9,7 +9,7 @@ abbrev pub invariant-loop-property : goal.invariant-loop-property
 invariant-loop-property l =
     (deleted : List (List ℕ)) → HaveSeen l.fn.seen deleted →
     HaveSeen l.seen (reverse (map (λ (p : Property). p.name) (take l.property-index l.changed)) ++ deleted)
-    × (changes_cause l.supported l.demanded l.offer
+    × (changes_cause l.supported l.type_properties l.offer
     (reverse (map (λ (p : Property). p.name) (take l.property-index l.changed)) ++ deleted)
     (drop l.property-index l.changed)
-    ≡ changes_cause l.supported l.demanded l.offer deleted l.changed)
+    ≡ changes_cause l.supported l.type_properties l.offer deleted l.changed)

@@ -11,7 +11,7 @@ pub returns : goal.returns
 returns c =
     let name = c.args.name.now in
     let o = c.args.offer.now in
-    let mode = mode_of c.args.demanded.now name in
+    let mode = mode_of c.args.type_properties.now name in
     let has : carries o.properties name ≡ true =
     sym (rw (c.as_slice.ensures, c.as_slice-2.ensures, c.deref.ensures) at c.carries.ensures)
     ∙ c.if-not-carries.false in

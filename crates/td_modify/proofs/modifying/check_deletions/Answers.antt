@@ -12,10 +12,10 @@ pub returns-in_err-check_name-clause-judged : goal.returns-in_err-check_name-cla
 returns-in_err-check_name-clause-judged c =
     let p = err_from_is_err_and c.from_residual.result c.from_residual.ensures.1 in
     let met = met_names c.args.names.now c.loop-name.name-index in
-    rw (p.1, p.2) (deletion_stops c.args.demanded.now c.args.offer.now c.args.names.now c.loop-name.name-index
+    rw (p.1, p.2) (deletion_stops c.args.type_properties.now c.args.offer.now c.args.names.now c.loop-name.name-index
     c.name-item.result c.in_err-check_name.field-0.0 c.loop-name-test.true c.name-item.is
     (first (name_cause met c.name-item.result)
-    (deletion_cause c.args.demanded.now c.args.offer.now c.name-item.result) c.in_err-check_name.field-0.0
+    (deletion_cause c.args.type_properties.now c.args.offer.now c.name-item.result) c.in_err-check_name.field-0.0
     (c.in_err-check_name.ensures.judged met c.loop-name.invariant.seen))
     c.loop-name.invariant.so_far)
 
@@ -24,10 +24,10 @@ returns-in_err-check_deletion-clause-judged c =
     let p =
     err_from_is_err_and c.from_residual-in_err-check_deletion.result c.from_residual-in_err-check_deletion.ensures.1 in
     let met = met_names c.args.names.now c.loop-name.name-index in
-    rw (p.1, p.2) (deletion_stops c.args.demanded.now c.args.offer.now c.args.names.now c.loop-name.name-index
+    rw (p.1, p.2) (deletion_stops c.args.type_properties.now c.args.offer.now c.args.names.now c.loop-name.name-index
     c.name-item.result c.in_err-check_deletion.field-0.0 c.loop-name-test.true c.name-item.is
     (second (name_cause met c.name-item.result)
-    (deletion_cause c.args.demanded.now c.args.offer.now c.name-item.result) c.in_err-check_deletion.field-0.0
+    (deletion_cause c.args.type_properties.now c.args.offer.now c.name-item.result) c.in_err-check_deletion.field-0.0
     (c.in_ok-check_name.ensures.judged met c.loop-name.invariant.seen) c.in_err-check_deletion.ensures)
     c.loop-name.invariant.so_far)
 
@@ -40,7 +40,7 @@ loop-name-preserved c =
           c.loop-name-test.true c.name-item.is
           (c.in_ok-check_name.ensures.noted met c.loop-name.invariant.seen);
       so_far =
-          deletion_passes c.args.demanded.now c.args.offer.now c.args.names.now c.loop-name.name-index
+          deletion_passes c.args.type_properties.now c.args.offer.now c.args.names.now c.loop-name.name-index
           c.name-item.result c.loop-name-test.true c.name-item.is
           (c.in_ok-check_name.ensures.judged met c.loop-name.invariant.seen) c.in_ok-check_deletion.ensures
           c.loop-name.invariant.so_far;

@@ -7,6 +7,6 @@ abbrev pub invariant-loop-name : goal.invariant-loop-name
 invariant-loop-name l =
     record {
       seen : HaveSeen l.seen (reverse (take l.name-index l.names));
-      so_far : deletions_cause l.demanded l.offer (reverse (take l.name-index l.names)) (drop l.name-index l.names)
-          ≡ deletions_cause l.demanded l.offer [] l.names;
+      so_far : deletions_cause l.type_properties l.offer (reverse (take l.name-index l.names)) (drop l.name-index l.names)
+          ≡ deletions_cause l.type_properties l.offer [] l.names;
     }

@@ -5,7 +5,7 @@ use Rattle.td_modify.proofs.modifying.check_modify.Goals as goal
 
 pub returns : goal.returns
 returns c =
-    later (deletions_cause c.args.demanded.now c.args.offer.now [] c.args.deleted.now)
-    (changes_cause c.args.supported c.args.demanded.now c.args.offer.now c.args.deleted.now c.args.changed.now)
+    later (deletions_cause c.args.type_properties.now c.args.offer.now [] c.args.deleted.now)
+    (changes_cause c.args.supported c.args.type_properties.now c.args.offer.now c.args.deleted.now c.args.changed.now)
     c.check_changes.result c.in_ok-check_deletions.ensures.judged
     (c.check_changes.ensures c.args.deleted.now c.in_ok-check_deletions.ensures.noted)

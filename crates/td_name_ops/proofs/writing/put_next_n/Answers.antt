@@ -1,9 +1,9 @@
 use Rattle.std.proofs.Common.{◌≡◌, Bool, true, false, not, List, [], ◌∷◌, refl}
 use Rattle.std.specs.Prelude.{◌↔◌, IsTrue}
-use Rattle.td_codes.specs.Formats.{is_some}
+use Rattle.td_typecode.specs.Formats.{is_nonempty}
 use Rattle.td_name_ops.proofs.writing.put_next_n.Goals as goal
 
-some : {X : Type 0} (xs : List X) (empty : Bool) → (IsTrue empty ↔ (xs ≡ [])) → not empty ≡ is_some xs
+some : {X : Type 0} (xs : List X) (empty : Bool) → (IsTrue empty ↔ (xs ≡ [])) → not empty ≡ is_nonempty xs
 some [] true h = refl
 some [] false h = let wrong = h.1 refl in absurd cc
 some (x ∷ xs) true h = let wrong = h.0 refl in absurd cc

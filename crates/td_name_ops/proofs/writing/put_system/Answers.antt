@@ -1,5 +1,5 @@
 use Rattle.std.proofs.Common.{refl}
-use Rattle.td_codes.proofs.WrittenParts.{puts-whole}
+use Rattle.td_typecode.proofs.WrittenParts.{puts-whole}
 use Rattle.td_ops.specs.Outcomes.{system_piece}
 use Rattle.td_name_ops.proofs.writing.put_system.Goals as goal
 

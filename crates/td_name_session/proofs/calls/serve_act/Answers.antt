@@ -1,7 +1,7 @@
 use Rattle.std.proofs.Common.{refl}
-use Rattle.td_name_session.proofs.Performing.{act_done_so}
+use Rattle.td_name_session.proofs.Invoking.{act_done_so}
 use Rattle.td_name_session.proofs.calls.serve_act.Goals as goal
-use Rattle.td_name_session.specs.Performing.ActsTo.{wanting}
+use Rattle.td_name_session.specs.Invoking.ActsTo.{no_memory_outcome}
 
 pub returns-in-Ok-clause-acts : goal.returns-in-Ok-clause-acts
 returns-in-Ok-clause-acts g c =
@@ -11,4 +11,4 @@ returns-in-Ok-clause-acts g c =
     c.outcome_of.ensures c.is_change-is_change.ensures refl c.is_accepted-accepted.ensures
 
 pub returns-in-Err-clause-acts : goal.returns-in-Err-clause-acts
-returns-in-Err-clause-acts g c = wanting c.in-Err.ensures.err (c.no_memory.ensures.body, c.no_memory.ensures.accepted)
+returns-in-Err-clause-acts g c = no_memory_outcome c.in-Err.ensures.err (c.no_memory.ensures.body, c.no_memory.ensures.accepted)

@@ -1,4 +1,4 @@
-use Rattle.td_name_session.proofs.Performing.{puts_some}
+use Rattle.td_name_session.proofs.Invoking.{puts_some}
 use Rattle.td_name_session.proofs.iterating.next_n.Goals as goal
 
 pub returns-clause-ok : goal.returns-clause-ok

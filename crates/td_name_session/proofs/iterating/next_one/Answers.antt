@@ -1,5 +1,5 @@
 use Rattle.std.specs.Option.{option_copied}
-use Rattle.td_name_session.proofs.Performing.{puts_one}
+use Rattle.td_name_session.proofs.Invoking.{puts_one}
 use Rattle.td_name_session.proofs.iterating.next_one.Goals as goal
 
 pub returns-clause-ok : goal.returns-clause-ok

@@ -1,7 +1,7 @@
 use Rattle.std.proofs.Common.{sym}
-use Rattle.td_name_session.proofs.Performing.{batch_iterates, gone_iterates}
+use Rattle.td_name_session.proofs.Invoking.{batch_iterates, gone_iterates}
 use Rattle.td_name_session.proofs.iterators.batch.Goals as goal
-use Rattle.td_name_session.specs.Performing.{batch_call}
+use Rattle.td_name_session.specs.Invoking.{batch_call}
 
 pub returns-in-Some : goal.returns-in-Some
 returns-in-Some c =

@@ -1,5 +1,5 @@
 use Rattle.td_name_ops.specs.declared.call.IteratorCall.TheVariants as asked
-use Rattle.td_name_session.proofs.Performing.{destroy_iterates, unkept_iterates}
+use Rattle.td_name_session.proofs.Invoking.{destroy_iterates, unkept_iterates}
 use Rattle.td_name_session.proofs.iterators.destroy.Goals as goal
 
 pub returns-then-is_at : goal.returns-then-is_at

@@ -12,4 +12,4 @@ returns-in-Some-clause-unread g c =
 
 pub returns-in-None-clause-judged : goal.returns-in-None-clause-judged
 returns-in-None-clause-judged g c =
-    none_judges g.N.Names.others _ _ _ _ _ _ c.refused.result c.refused.ensures c.in-None.ensures.finds
+    none_judges g.N.Names.others _ _ _ _ _ _ c.refusal_outcome.result c.refusal_outcome.ensures c.in-None.ensures.finds

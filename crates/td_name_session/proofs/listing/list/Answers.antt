@@ -1,4 +1,4 @@
-use Rattle.td_name_session.proofs.Performing.{cut_lists}
+use Rattle.td_name_session.proofs.Invoking.{cut_lists}
 use Rattle.td_name_session.proofs.listing.list.Goals as goal
 
 pub returns-in-Done-Bindings-clause-ok : goal.returns-in-Done-Bindings-clause-ok

@@ -5,5 +5,5 @@ pub returns : goal.returns
 returns g c = record {
   contexts = c.in-Ok.contexts;
   closes = close_seen _ _ _ c.in-Ok.ensures.closed;
-  handed_on = c.naming.ensures.told;
+  handed_on = c.naming.ensures.content;
 }

@@ -8,4 +8,4 @@ returns-in-Ok-clause-serves g c =
     let here = c.home-home.ensures.home in
     if_ok c.serve_bound.result c.serve_bound.ensures.serves
     (λ f. from_bound _ _ c.args.contexts _ _ _ _ _ _ _ (c.as_slice.ensures ∙ ap (λ (h : Address). h.host) here)
-    (ap (λ (h : Address). h.port) here) c.in-Ok.ensures.told.ok f)
+    (ap (λ (h : Address). h.port) here) c.in-Ok.ensures.content.ok f)

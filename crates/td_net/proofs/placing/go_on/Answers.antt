@@ -1,9 +1,9 @@
 use Rattle.std.proofs.Common.{◌<◌, ◌∙◌, ap, subst, sym, Some}
 use Rattle.td_net.proofs.Becoming.{as-settled, still-there, waits-for-call, waits-for-value}
 use Rattle.td_net.proofs.placing.go_on.Goals as goal
-use Rattle.td_net.specs.Worlds.{after, sent, settled}
+use Rattle.td_net.specs.Worlds.{after, sent, visit_progress}
 use Rattle.td_net.specs.declared.call.Call.{Call}
-use Rattle.td_net.specs.declared.settling.Pending.TheVariants.{SubQuery, Value}
+use Rattle.td_net.specs.declared.advancing.Pending.TheVariants.{SubQuery, Value}
 
 pub index_mut-requires-in-SubQuery : goal.index_mut-requires-in-SubQuery
 index_mut-requires-in-SubQuery c =
@@ -14,24 +14,24 @@ index_mut-requires-in-SubQuery c =
 
 pub returns-in-Value-clause-becomes : goal.returns-in-Value-clause-becomes
 returns-in-Value-clause-becomes c k w is group visits =
-    as-settled w c.args.call k c.args.frame.local c.args.frame.answers c.args.steps c.settle.new.frame.answers
-    c.settle.new.steps Value c.args.group.now.traders.items c.args.group.now.home _
-    (ap (settled c.settle.new.frame.answers c.settle.new.steps) (sym c.in-Value.is) ∙ c.in_ok-settle.ensures.settled)
+    as-settled w c.args.call k c.args.frame.local c.args.frame.answers c.args.steps c.advance.new.frame.answers
+    c.advance.new.steps Value c.args.group.now.traders.items c.args.group.now.home _
+    (ap (visit_progress c.advance.new.frame.answers c.advance.new.steps) (sym c.in-Value.is) ∙ c.in_ok-advance.ensures.settled)
     group
     (waits-for-value c.args.visits.now.calls.items c.args.call c.args.visits.now.words c.args.frame.local
-    c.settle.new.frame c.settle.new.steps c.index_mut.result.now c.stand.new.self c.settle.ensures.local
+    c.advance.new.frame c.advance.new.steps c.index_mut.result.now c.stand.new.self c.advance.ensures.local
     c.index_mut.ensures.value c.stand.ensures k w is visits)
 
 pub returns-in_ok-sub-in-SubQuery-clause-becomes :
     goal.returns-in_ok-sub-in-SubQuery-clause-becomes
 returns-in_ok-sub-in-SubQuery-clause-becomes c k w is group visits =
-    as-settled w c.args.call k c.args.frame.local c.args.frame.answers c.args.steps c.settle.new.frame.answers
-    c.settle.new.steps (SubQuery c.in-SubQuery.target c.in-SubQuery.query) c.args.group.now.traders.items
+    as-settled w c.args.call k c.args.frame.local c.args.frame.answers c.args.steps c.advance.new.frame.answers
+    c.advance.new.steps (SubQuery c.in-SubQuery.target c.in-SubQuery.query) c.args.group.now.traders.items
     c.args.group.now.home _
-    (ap (settled c.settle.new.frame.answers c.settle.new.steps) (sym c.in-SubQuery.is)
-    ∙ c.in_ok-settle.ensures.settled) group
+    (ap (visit_progress c.advance.new.frame.answers c.advance.new.steps) (sym c.in-SubQuery.is)
+    ∙ c.in_ok-advance.ensures.settled) group
     (waits-for-call c.args.visits.now.calls.items c.open.new.calls.items c.args.call c.args.visits.now.words
-    c.args.frame.local c.settle.new.frame c.settle.new.steps c.in-SubQuery.target c.in_ok-sub-in-SubQuery.sub
-    c.in-SubQuery.query c.index_mut-in-SubQuery.result.now c.stand-in-SubQuery.new.self c.settle.ensures.local
+    c.args.frame.local c.advance.new.frame c.advance.new.steps c.in-SubQuery.target c.in_ok-sub-in-SubQuery.sub
+    c.in-SubQuery.query c.index_mut-in-SubQuery.result.now c.stand-in-SubQuery.new.self c.advance.ensures.local
     c.in_ok-sub-in-SubQuery.ensures.number c.in_ok-sub-in-SubQuery.ensures.opened
     c.index_mut-in-SubQuery.ensures.value c.stand-in-SubQuery.ensures k w is visits)

@@ -4,10 +4,10 @@ use Rattle.td_net.proofs.Taking.{answer-so, handed-on, handed-wants, there}
 use Rattle.td_net.proofs.resuming.answer.Goals as goal
 use Rattle.td_net.specs.Worlds.{answer_at, hand_on, visit_in}
 use Rattle.td_net.specs.declared.call.Call.{Call}
-use Rattle.td_net.specs.declared.call.Step.TheVariants.{Given}
+use Rattle.td_net.specs.declared.call.QuestionStep.TheVariants.{Given}
 use Rattle.td_walk.specs.declared.answer.StepAnswer.TheVariants.{Offers}
 use Rattle.std.specs.Prelude.{Some, slice_get}
-use Rattle.td_walk_laws.specs.Walks.{answer_in}
+use Rattle.td_query_walk.specs.Walks.{answer_in}
 
 pub returns-in-Ok-give-clause-takes : goal.returns-in-Ok-give-clause-takes
 returns-in-Ok-give-clause-takes c w group visits =

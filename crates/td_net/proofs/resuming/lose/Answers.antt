@@ -4,7 +4,7 @@ use Rattle.td_net.proofs.Taking.{lose-so, handed-on, handed-wants, there}
 use Rattle.td_net.proofs.resuming.lose.Goals as goal
 use Rattle.td_net.specs.Worlds.{lose_at}
 use Rattle.td_net.specs.declared.call.Call.{Call}
-use Rattle.td_net.specs.declared.call.Step.TheVariants.{Lost}
+use Rattle.td_net.specs.declared.call.QuestionStep.TheVariants.{Lost}
 use Rattle.td_walk.specs.declared.answer.StepAnswer.TheVariants.{Failed}
 use Rattle.std.specs.Prelude.{slice_get}
 

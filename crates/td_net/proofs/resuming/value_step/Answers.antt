@@ -2,7 +2,7 @@ use Rattle.std.proofs.Common.{◌∙◌, ap, sym}
 use Rattle.td_net.proofs.Snapshots.{value-shown}
 use Rattle.td_net.proofs.resuming.value_step.Goals as goal
 use Rattle.td_net.specs.Worlds.{value_step}
-use Rattle.td_net.specs.declared.call.Step.TheVariants.{Valued}
+use Rattle.td_net.specs.declared.call.QuestionStep.TheVariants.{Valued}
 
 pub returns-in-Some : goal.returns-in-Some
 returns-in-Some c =

@@ -2,7 +2,7 @@ use Rattle.std.proofs.Common.{◌≡◌, true, false, is_some, refl, sym, ◌∙
 use Rattle.td_cdr.specs.Names.{word_name}
 use Rattle.td_exceptions.specs.declared.exception.UserException.TheVariants.{UnknownServiceType}
 use Rattle.td_types.specs.Repository.{type_named}
-use Rattle.td_register.specs.Named.{unmasked}
+use Rattle.td_register.specs.Named.{if_unmasked}
 use Rattle.td_register.proofs.Otherwise.{nothing_there, something_there}
 use Rattle.td_register.proofs.named.check_open.Goals as goal
 
@@ -15,7 +15,7 @@ returns-then-not-is_word_name c =
 pub returns-then-not-is_open : goal.returns-then-not-is_open
 returns-then-not-is_open c =
     let name = c.args.name.now in
-    let found = unmasked (type_named c.args.types.now.types name) in
+    let found = if_unmasked (type_named c.args.types.now.types name) in
     let fine : word_name name ≡ true =
     sym (rw c.as_slice.ensures at c.is_word_name.ensures) ∙ c.if-not-is_word_name.false in
     let closed : is_some found ≡ false =
@@ -25,7 +25,7 @@ returns-then-not-is_open c =
 pub returns : goal.returns
 returns c =
     let name = c.args.name.now in
-    let found = unmasked (type_named c.args.types.now.types name) in
+    let found = if_unmasked (type_named c.args.types.now.types name) in
     let fine : word_name name ≡ true =
     sym (rw c.as_slice.ensures at c.is_word_name.ensures) ∙ c.if-not-is_word_name.false in
     let opened : is_some found ≡ true =

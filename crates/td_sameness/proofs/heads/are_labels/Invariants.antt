@@ -1,7 +1,7 @@
 use Rattle.std.proofs.Common.{◌≡◌, drop, length, map}
 use Rattle.std.specs.Ordering.{int_eq}
 use Rattle.std.specs.Cmp.Lexicographic.{pointwise}
-use Rattle.td_codes.specs.Same.{labels_in, row, arm_entry}
+use Rattle.td_typecode.specs.Same.{labels_in, row, arm_entry}
 use Rattle.td_sameness.proofs.heads.are_labels.Given as goal
 
 abbrev pub invariant-loop-i : goal.invariant-loop-i

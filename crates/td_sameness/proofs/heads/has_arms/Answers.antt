@@ -1,7 +1,7 @@
 use Rattle.std.proofs.Common.{[], ◌∷◌, map, sym, ◌∙◌}
-use Rattle.td_codes.specs.declared.kinds.CodeKind.TheVariants as kind
-use Rattle.td_codes.specs.Kinds.{number_of}
-use Rattle.td_codes.specs.Same.{row, arm_entry}
+use Rattle.td_typecode.specs.declared.kinds.CodeKind.TheVariants as kind
+use Rattle.td_typecode.specs.Kinds.{number_of}
+use Rattle.td_typecode.specs.Same.{row, arm_entry}
 use Rattle.td_sameness.proofs.Counting.{count-entries, not-headed, not-named, by-numbers}
 use Rattle.td_sameness.proofs.heads.has_arms.Goals as goal
 

@@ -1,6 +1,6 @@
 use Rattle.std.proofs.Common.{[], map, sym, ◌∙◌}
-use Rattle.td_codes.specs.Kinds.{number_of}
-use Rattle.td_codes.specs.Same.{row, member_entry}
+use Rattle.td_typecode.specs.Kinds.{number_of}
+use Rattle.td_typecode.specs.Same.{row, member_entry}
 use Rattle.td_sameness.proofs.Counting.{count-entries, not-headed, not-named, by-numbers, members-unlabelled}
 use Rattle.td_sameness.proofs.heads.has_members.Goals as goal
 

@@ -1,6 +1,6 @@
 use Rattle.std.proofs.Common.{◌<◌, length, sym, ◌∙◌, arith}
-use Rattle.td_codes.specs.Same.{member_entry, arm_entry}
-use Rattle.td_codes.proofs.OfPlainKind.{plain-else}
+use Rattle.td_typecode.specs.Same.{member_entry, arm_entry}
+use Rattle.td_typecode.proofs.OfPlainKind.{plain-else}
 use Rattle.td_sameness.proofs.PlainKinds.{plain-placed, graph-placed}
 use Rattle.td_sameness.proofs.Along.{along-lengths, along-end, along-fails, along-next}
 use Rattle.td_sameness.proofs.placed.+placed.Goals as goal

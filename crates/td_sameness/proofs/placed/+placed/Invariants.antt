@@ -1,5 +1,5 @@
 use Rattle.std.proofs.Common.{◌≡◌, drop, length, map}
-use Rattle.td_codes.specs.Same.{alike_along, row, member_entry, arm_entry}
+use Rattle.td_typecode.specs.Same.{alike_along, row, member_entry, arm_entry}
 use Rattle.td_sameness.proofs.placed.+placed.Given as goal
 
 abbrev pub invariant-members_along-loop-i : goal.invariant-members_along-loop-i

@@ -1,6 +1,6 @@
 use Rattle.std.proofs.Common.{◌<◌, length, sym, ap, ◌∙◌, arith}
-use Rattle.td_codes.specs.Same.{member_entry, arm_entry, like, shape}
-use Rattle.td_codes.proofs.OfPlainKind.{plain-else}
+use Rattle.td_typecode.specs.Same.{member_entry, arm_entry, like, shape}
+use Rattle.td_typecode.proofs.OfPlainKind.{plain-else}
 use Rattle.td_sameness.proofs.PlainKinds.{plain-same, graph-same}
 use Rattle.td_sameness.proofs.Alike.{here-long, here-end, here-fails, here-next}
 use Rattle.td_sameness.proofs.trees.+same.Goals as goal

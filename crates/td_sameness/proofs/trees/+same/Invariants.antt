@@ -1,5 +1,5 @@
 use Rattle.std.proofs.Common.{◌≡◌, drop, length, map}
-use Rattle.td_codes.specs.Same.{alike, row, member_entry, arm_entry}
+use Rattle.td_typecode.specs.Same.{alike, row, member_entry, arm_entry}
 use Rattle.td_sameness.proofs.trees.+same.Given as goal
 
 abbrev pub invariant-same_members-loop-i : goal.invariant-same_members-loop-i

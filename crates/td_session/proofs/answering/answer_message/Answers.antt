@@ -1,7 +1,7 @@
 use Rattle.td_session.specs.Stages.{stage}
 use Rattle.td_session.proofs.Messages.{cancel_served, locate_served}
 use Rattle.td_session.proofs.answering.answer_message.Goals as goal
-use Rattle.td_serve.specs.Backends.{scene_of}
+use Rattle.td_dispatch.specs.Backends.{scene_of}
 
 pub answer_request-requires-clause-head : goal.answer_request-requires-clause-head
 answer_request-requires-clause-head g c = rw c.in-Request.is at c.requires.head

@@ -1,5 +1,5 @@
 use Rattle.std.proofs.Common.{List, [], ◌∷◌, ◌++◌, ap, ◌∙◌}
-use Rattle.td_reply.specs.declared.entry.Entry.{Entry}
+use Rattle.td_servant.specs.declared.entry.Entry.{Entry}
 use Rattle.td_session.proofs.Messages.{request_served}
 use Rattle.td_session.proofs.request.answer_request.Goals as goal
 use Rattle.td_stream.specs.Heads.{asked_of}

@@ -1,5 +1,5 @@
-use Rattle.td_reply.specs.Linking.{peers_seen}
-use Rattle.td_serve.specs.Backends.{backend_seen}
+use Rattle.td_servant.specs.Linking.{peers_seen}
+use Rattle.td_dispatch.specs.Backends.{backend_seen}
 use Rattle.td_session.specs.Serving.{ServesMessage, Stays}
 use Rattle.td_session.specs.Stages.{stage_in}
 use Rattle.td_session.proofs.Complete.{complete}
@@ -7,7 +7,7 @@ use Rattle.td_session.proofs.Exchanged.{session_served}
 use Rattle.td_session.proofs.session.serve_lent.Goals as goal
 use Rattle.td_session.proofs.Messages.{first_number}
 use Rattle.td_stream.proofs.Mapped.{seen_so}
-use Rattle.td_turns.proofs.Running.{faults-rise}
+use Rattle.td_session_runs.proofs.Running.{faults-rise}
 
 pub serve_stream-end-requires : goal.serve_stream-end-requires
 serve_stream-end-requires g c = first_number _ c.requires.desk

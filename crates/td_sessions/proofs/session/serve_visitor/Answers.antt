@@ -1,5 +1,5 @@
 use Rattle.std.proofs.Common.{ℕ, List, [], ap, ◌∙◌}
-use Rattle.td_reply.specs.Linking.{peers_seen}
+use Rattle.td_servant.specs.Linking.{peers_seen}
 use Rattle.td_sessions.proofs.Seeded.{served}
 use Rattle.td_walk.specs.Peering.{Exchange}
 use Rattle.td_sessions.proofs.session.serve_visitor.Goals as goal

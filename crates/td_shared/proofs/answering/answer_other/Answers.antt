@@ -1,5 +1,5 @@
 use Rattle.std.proofs.Common.{List, ap, subst, sym, ◌∙◌, ◌≤◌, length}
-use Rattle.td_reply.specs.declared.entry.Entry.{Entry}
+use Rattle.td_servant.specs.declared.entry.Entry.{Entry}
 use Rattle.td_session.specs.Rooms.{Room}
 use Rattle.td_shared.proofs.OneKept.{message_keeps}
 use Rattle.td_shared.proofs.Others.{message_notes}

@@ -1,6 +1,6 @@
 use Rattle.td_cell.specs.Passes.{knowledge}
-use Rattle.td_reply.specs.Linking.{peers_seen}
-use Rattle.td_serve.specs.Backends.{backend_seen}
+use Rattle.td_servant.specs.Linking.{peers_seen}
+use Rattle.td_dispatch.specs.Backends.{backend_seen}
 use Rattle.td_shared.proofs.Streaming.{ServesKnown, StaysKnown, serves_sharing}
 use Rattle.td_shared.proofs.session.serve_lent.Goals as goal
 use Rattle.td_shared.specs.Stages.{shared_in}

@@ -5,5 +5,5 @@ pub returns : goal.returns
 returns g c = record {
   solo = c.in-Ok.solo;
   closes = closes_all _ _ _ c.in-Ok.ensures.closed;
-  handed_on = c.group.ensures.told;
+  handed_on = c.group.ensures.content;
 }

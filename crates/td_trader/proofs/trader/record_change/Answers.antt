@@ -11,11 +11,11 @@ returns-in-Ok-clause-records c =
     let n : c.len.result ≡ length h =
     omega (arith, c.len.ensures, c.reserve.new.self.ok.0, ap (λ (x : List Accepted). length x) c.reserve.ensures.items) in
     recorded-after c.args.bounds.now (length h) c.is_at_limit-full.result c.args.c c.args.store.now
-    c.perform.new.store h c.push_reserved.new.self.items c.args.reserved.now false (Ok (Done c.in_ok-told.told))
+    c.apply_change.new.store h c.push_reserved.new.self.items c.args.reserved.now false (Ok (Done c.in_ok-content.content))
     (c.is_at_limit-full.ensures ∙ ap (is_at_limit c.args.bounds.now) n)
-    (records-done c.is_at_limit-full.result c.args.c c.args.store.now c.perform.new.store h c.reserve.new.self.items
-    c.push_reserved.new.self.items c.args.reserved.now false c.in-Ok.accepted c.in_ok-told.told
-    c.in-Ok.ensures.accepts c.in_ok-told.ensures.reply c.reserve.ensures.items c.push_reserved.ensures.items refl)
+    (records-done c.is_at_limit-full.result c.args.c c.args.store.now c.apply_change.new.store h c.reserve.new.self.items
+    c.push_reserved.new.self.items c.args.reserved.now false c.in-Ok.accepted c.in_ok-content.content
+    c.in-Ok.ensures.accepts c.in_ok-content.ensures.reply c.reserve.ensures.items c.push_reserved.ensures.items refl)
 
 pub returns-in-Err-clause-records : goal.returns-in-Err-clause-records
 returns-in-Err-clause-records c =
@@ -23,8 +23,8 @@ returns-in-Err-clause-records c =
     let n : c.len.result ≡ length h =
     omega (arith, c.len.ensures, c.reserve.new.self.ok.0, ap (λ (x : List Accepted). length x) c.reserve.ensures.items) in
     recorded-after c.args.bounds.now (length h) c.is_at_limit-full.result c.args.c c.args.store.now
-    c.perform.new.store h c.reserve.new.self.items c.args.reserved.now c.args.reserved.now c.not_done.result
+    c.apply_change.new.store h c.reserve.new.self.items c.args.reserved.now c.args.reserved.now c.not_done.result
     (c.is_at_limit-full.ensures ∙ ap (is_at_limit c.args.bounds.now) n)
-    (not-recorded c.is_at_limit-full.result c.args.c c.args.store.now c.perform.new.store h c.reserve.new.self.items
+    (not-recorded c.is_at_limit-full.result c.args.c c.args.store.now c.apply_change.new.store h c.reserve.new.self.items
     c.args.reserved.now c.in-Err.fault c.not_done.result c.in-Err.ensures.accepts c.not_done.ensures
     c.reserve.ensures.items)

@@ -10,5 +10,5 @@ returns-clause-look g c = worlds-look g.T.Traders.others g.T.Traders.later g.met
 pub returns-clause-begin : goal.returns-clause-begin
 returns-clause-begin g c = worlds-begin g.T.Traders.others g.T.Traders.later g.met.T.Traders.others_admitted
 
-pub returns-clause-wanting : goal.returns-clause-wanting
-returns-clause-wanting g c = worlds-watch g.T.Traders.others g.T.Traders.later g.met.T.Traders.others_admitted
+pub returns-clause-no_memory_outcome : goal.returns-clause-no_memory_outcome
+returns-clause-no_memory_outcome g c = worlds-watch g.T.Traders.others g.T.Traders.later g.met.T.Traders.others_admitted

@@ -7,7 +7,7 @@ use Rattle.td_types.specs.Adding.{inherited_definitions}
 use Rattle.td_types.specs.Calls.{add_fault}
 use Rattle.td_types.specs.Judged.{AreBases, inherited_from}
 use Rattle.td_types.specs.Kept.{repository}
-use Rattle.td_types.specs.declared.entry.Entry.{Entry}
+use Rattle.td_types.specs.declared.entry.TypeEntry.{TypeEntry}
 use Rattle.td_types.proofs.adding.judged.Goals as goal
 
 pub returns-in_err-check_redefinitions : goal.returns-in_err-check_redefinitions
@@ -15,8 +15,8 @@ returns-in_err-check_redefinitions c =
     let p =
     err_from_is_err_and c.from_residual-in_err-check_redefinitions.result
     c.from_residual-in_err-check_redefinitions.ensures.1 in
-    rw (p.1, p.2) (passes {X = Unit {0}} {Y = List (Bor Entry)} (λ _. Unit {0})
-    (λ (bases : List (Bor Entry)). AreBases c.args.entries.now c.args.supers.now (entries_of bases))
+    rw (p.1, p.2) (passes {X = Unit {0}} {Y = List (Bor TypeEntry)} (λ _. Unit {0})
+    (λ (bases : List (Bor TypeEntry)). AreBases c.args.entries.now c.args.supers.now (entries_of bases))
     (redefinition (definitions c.args.name.now true c.args.props.now)
     (inherited_from (entries_of c.as_slice.result.now)))
     (add_fault (repository c.args.entries.now c.args.interfaces.now 0) c.args.name.now c.args.if_name.now
@@ -34,7 +34,7 @@ returns-in_err-check_redefinitions c =
     (ap (redefinition (definitions c.args.name.now true c.args.props.now))
     (definitions_are c.args.entries.now c.args.entries.now c.args.interfaces.now 0 c.args.supers.now
     (entries_of c.in_ok-bases.bases) c.requires c.in_ok-bases.ensures.1))
-    (ap (λ (bases : List (Bor Entry)).
+    (ap (λ (bases : List (Bor TypeEntry)).
     redefinition (definitions c.args.name.now true c.args.props.now) (inherited_from (entries_of bases)))
     (sym c.as_slice.ensures)
     ∙ h))

@@ -4,16 +4,16 @@ use Rattle.td_types.proofs.Prepares.{Ready, failed, refused, many_types, last_gi
 use Rattle.td_types.proofs.Redefined.{entries_of}
 use Rattle.td_types.specs.Adding.{most_types}
 use Rattle.td_types.specs.Inheriting.{IsMore}
-use Rattle.td_types.specs.Judged.{AreBases, inherited}
+use Rattle.td_types.specs.Judged.{AreBases, inherited_properties}
 use Rattle.td_types.specs.Properties.{with_inherited}
-use Rattle.td_types.specs.declared.entry.Entry.{Entry}
+use Rattle.td_types.specs.declared.entry.TypeEntry.{TypeEntry}
 use Rattle.td_types.proofs.adding.prepared.Goals as goal
 
 pub returns-in_err-bases : goal.returns-in_err-bases
 returns-in_err-bases c =
     let p = err_from_is_err_and c.from_residual.result c.from_residual.ensures.1 in
-    rw (p.1, p.2) (refused {X = List (Bor Entry)}
-    (λ (bases : List (Bor Entry)). AreBases c.args.entries.now c.as_slice-2.result.now (entries_of bases))
+    rw (p.1, p.2) (refused {X = List (Bor TypeEntry)}
+    (λ (bases : List (Bor TypeEntry)). AreBases c.args.entries.now c.as_slice-2.result.now (entries_of bases))
     c.args.entries.now c.args.interfaces.now c.args.last c.args.name c.args.if_name
     c.args.props c.as_slice.result.now c.args.supers c.as_slice-2.result.now c.in_err-bases.field-0.0 c.as_slice.ensures
     c.as_slice-2.ensures c.in_err-bases.ensures)
@@ -55,8 +55,8 @@ returns-in_err-full c =
     let p = err_from_is_err_and c.from_residual-in_err-full.result c.from_residual-in_err-full.ensures.1 in
     rw (p.1, p.2) (many_properties c.args.entries.now c.args.interfaces.now c.args.last c.args.name c.args.if_name
     c.args.props c.args.supers (entries_of c.in_ok-bases.bases) c.in_err-full.field-0.0 k
-    (subst (λ (bases : List (Bor Entry)).
-    IsMore (with_inherited c.args.props (inherited (entries_of bases))) (failed c.in_err-full.field-0.0))
+    (subst (λ (bases : List (Bor TypeEntry)).
+    IsMore (with_inherited c.args.props (inherited_properties (entries_of bases))) (failed c.in_err-full.field-0.0))
     c.as_slice-3.ensures c.in_err-full.ensures))
 
 pub returns : goal.returns

@@ -5,8 +5,8 @@ use Rattle.td_types.specs.Judged.{AreBases}
 use Rattle.td_types.specs.Kept.{repository}
 use Rattle.td_types.specs.Repository.{is_among}
 use Rattle.td_cdr.specs.Seen.{has_seen}
-use Rattle.td_types.specs.Sought.{sought}
-use Rattle.td_types.specs.declared.entry.Entry.{Entry}
+use Rattle.td_types.specs.Sought.{find_entry}
+use Rattle.td_types.specs.declared.entry.TypeEntry.{TypeEntry}
 use Rattle.td_types.proofs.Found.{found_named}
 use Rattle.td_types.proofs.Supers.{refuses, stops, goes_on, sees, finds, super_refused, super_twice, super_mismatch}
 use Rattle.td_types.proofs.Supers.{super_fine, met_before, met_first}
@@ -15,10 +15,10 @@ use Rattle.td_types.proofs.bases.bases_of.Goals as goal
 pub returns-in_err-base : goal.returns-in_err-base
 returns-in_err-base c =
     let p = err_from_is_err_and c.from_residual.result c.from_residual.ensures.1 in
-    rw (p.1, p.2) (refuses {X = List (Bor Entry)}
-    (λ (bases : List (Bor Entry)).
-    AreBases c.args.entries.now c.args.supers.now (map (λ (b : Bor Entry). b.now) bases))
-    _ (sought c.args.entries.now c.base_name-item.result) c.in_err-base.field-0.0
+    rw (p.1, p.2) (refuses {X = List (Bor TypeEntry)}
+    (λ (bases : List (Bor TypeEntry)).
+    AreBases c.args.entries.now c.args.supers.now (map (λ (b : Bor TypeEntry). b.now) bases))
+    _ (find_entry c.args.entries.now c.base_name-item.result) c.in_err-base.field-0.0
     (λ f h. stops (repository c.args.entries.now c.args.interfaces.now 0) c.args.name.now c.args.if_name.now
     c.args.supers.now c.loop-base_name.base_name-index c.base_name-item.result f _ c.loop-base_name-test.true
     c.base_name-item.is

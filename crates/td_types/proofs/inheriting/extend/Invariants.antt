@@ -1,9 +1,9 @@
 use Rattle.std.proofs.Common.{◌≡◌, ◌≤◌, List, ◌++◌, length, drop, map, Bor}
 use Rattle.td_value.specs.declared.structures.PropStruct.{PropStruct}
 use Rattle.td_types.specs.Adding.{most_properties}
-use Rattle.td_types.specs.Inheriting.{extended}
-use Rattle.td_types.specs.Judged.{inherited}
-use Rattle.td_types.specs.declared.entry.Entry.{Entry}
+use Rattle.td_types.specs.Inheriting.{with_further}
+use Rattle.td_types.specs.Judged.{inherited_properties}
+use Rattle.td_types.specs.declared.entry.TypeEntry.{TypeEntry}
 use Rattle.td_types.proofs.inheriting.extend.Given as goal
 
 abbrev pub invariant-loop-property : goal.invariant-loop-property
@@ -11,7 +11,7 @@ invariant-loop-property l =
     record {
       few : length l.full ≤ most_properties;
       so_far : (later : List PropStruct)
-          → extended (inherited (map (λ (b : Bor Entry). b.now) l.bases)) l.full
+          → with_further (inherited_properties (map (λ (b : Bor TypeEntry). b.now) l.bases)) l.full
           (drop l.property-index l.base.full ++ later)
-          ≡ extended (inherited (map (λ (b : Bor Entry). b.now) l.bases)) l.fn.full (l.base.full ++ later);
+          ≡ with_further (inherited_properties (map (λ (b : Bor TypeEntry). b.now) l.bases)) l.fn.full (l.base.full ++ later);
     }

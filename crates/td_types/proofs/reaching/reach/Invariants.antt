@@ -1,5 +1,5 @@
 use Rattle.std.proofs.Common.{◌+◌, ◌-◌, length}
-use Rattle.td_types.specs.Marking.{unmarked}
+use Rattle.td_types.specs.Marking.{count_unmarked}
 use Rattle.td_types.proofs.Walks.{Walked}
 use Rattle.td_types.proofs.reaching.reach.Given as goal
 
@@ -8,4 +8,4 @@ invariant-loop-next l = Walked l.links.items l.starts l.marks.items l.queue.item
 
 -- what isn't marked yet, and what waits to be looked at
 abbrev pub decreases-loop-next : goal.decreases-loop-next
-decreases-loop-next l = unmarked l.marks.items + (length l.queue.items - l.next)
+decreases-loop-next l = count_unmarked l.marks.items + (length l.queue.items - l.next)

@@ -1,4 +1,4 @@
-use Rattle.td_types.specs.Firsts.{stated}
+use Rattle.td_types.specs.Firsts.{definition_of}
 use Rattle.std.proofs.Common.{Some}
 use Rattle.td_types.proofs.Redefined.{found_first, kept_there, put_there}
 use Rattle.td_types.proofs.redefining.first.Goals as goal
@@ -10,7 +10,7 @@ returns-in-Some-clause-earlier c =
 
 pub returns-in-Some-clause-kept : goal.returns-in-Some-clause-kept
 returns-in-Some-clause-kept c =
-    kept_there c.args.firsts.now c.args.given.property.now.name _ (Some (stated c.args.given))
+    kept_there c.args.firsts.now c.args.given.property.now.name _ (Some (definition_of c.args.given))
     (found_first c.args.firsts.now c.as_slice-name.result c.args.given.property.now.name _ c.as_slice-name.ensures
     c.in-Some.ensures.value)
 

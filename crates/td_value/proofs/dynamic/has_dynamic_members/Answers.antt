@@ -1,12 +1,12 @@
 use Rattle.std.proofs.Common.{◌≡◌, ℕ, suc, false, List, [], ◌∷◌, length, map, refl, sym, ap, arith}
 use Rattle.std.proofs.lemmas.List.{length-map}
 use Rattle.std.proofs.Math.Bool.{and-false}
-use Rattle.td_codes.specs.Same.{Entry, row, member_entry}
+use Rattle.td_typecode.specs.Same.{Component, row, member_entry}
 use Rattle.td_value.specs.Dynamic.{has_kinds, dynamic_kinds}
 use Rattle.td_value.proofs.dynamic.has_dynamic_members.Goals as goal
 
 -- not as many
-kinds-long : (kinds : List ℕ) (es : List Entry) → (length kinds ≡ length es → ⊥) → has_kinds kinds (row es) ≡ false
+kinds-long : (kinds : List ℕ) (es : List Component) → (length kinds ≡ length es → ⊥) → has_kinds kinds (row es) ≡ false
 kinds-long [] [] no_match = absurd (no_match refl)
 kinds-long [] (e ∷ es) no_match = refl
 kinds-long (kind ∷ kinds) [] no_match = refl

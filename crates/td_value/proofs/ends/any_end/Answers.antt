@@ -1,4 +1,4 @@
-use Rattle.td_codes.proofs.OfPlainKind.{plain-else, number-else}
+use Rattle.td_typecode.proofs.OfPlainKind.{plain-else, number-else}
 use Rattle.td_value.proofs.Endings.{plain_any_ends, string_any_ends}
 use Rattle.td_value.proofs.ends.any_end.Goals as goal
 

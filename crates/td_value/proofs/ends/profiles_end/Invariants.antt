@@ -1,7 +1,7 @@
 use Rattle.std.proofs.Common.{◌≡◌, ◌+◌, length, map, drop}
 use Rattle.td_cdr.specs.Format.{row}
 use Rattle.td_cdr.specs.declared.order.Order.TheVariants.{Big}
-use Rattle.td_codes.specs.References.{profile}
+use Rattle.td_typecode.specs.References.{profile}
 use Rattle.td_value.proofs.ends.profiles_end.Given as goal
 
 -- what is left ends where all of it does

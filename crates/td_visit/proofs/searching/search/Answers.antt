@@ -17,7 +17,7 @@ loop-offer-preserved c =
     step l c.offer-item.result (drop (i + 1) os) s.tried s.found c.try_candidate.new.found s.made
     c.try_candidate.new.made xs c.try_candidate.new.left.answers.now c.in_ok-question.question
     (sym c.is_some.ensures ∙ c.if-is_some.false)
-    (lt-leb l.effective.match_card (length s.found) (omega (arith, c.len.ensures))) c.in_ok-question.ensures.told
+    (lt-leb l.effective.match_card (length s.found) (omega (arith, c.len.ensures))) c.in_ok-question.ensures.content
     c.in_ok-question.ensures.stopped in
     let behind : drop i os ≡ c.offer-item.result ∷ drop (i + 1) os =
     drop_more os i c.offer-item.result (omega arith)

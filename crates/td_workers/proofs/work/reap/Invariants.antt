@@ -1,14 +1,14 @@
 use Rattle.std.proofs.Common.{◌≤◌, ◌-◌, vec_len}
 use Rattle.td_workers.specs.Jobs.{jobs}
-use Rattle.td_workers.specs.Works.{Moves}
+use Rattle.td_workers.specs.JobSources.{SourceMoves}
 use Rattle.td_workers.proofs.work.reap.Given as goal
 
 -- the workers before this place were looked at, and of those the ended ones are gone
 abbrev pub invariant-reaping : goal.invariant-reaping
 invariant-reaping g l =
-    vec_len l.working ≤ 64 × g.H.Hall.goes l.fn.hall l.hall
-    × Moves g.H.Hall.ready g.H.Hall.waits g.H.Hall.admits g.H.Hall.closes g.J.Job.does g.J.Job.here g.H.Hall.parts l.fn.hall
-    (jobs l.fn.working.items) l.hall (jobs l.working.items)
+    vec_len l.working ≤ 64 × g.H.JobSource.goes l.fn.job_source l.job_source
+    × SourceMoves g.H.JobSource.ready g.H.JobSource.waits g.H.JobSource.admits g.H.JobSource.closes g.J.Job.does g.J.Job.here g.H.JobSource.parts l.fn.job_source
+    (jobs l.fn.working.items) l.job_source (jobs l.working.items)
 
 abbrev pub decreases-reaping : goal.decreases-reaping
 decreases-reaping g l = vec_len l.working - l.at

@@ -1,7 +1,7 @@
 use Rattle.std.proofs.Common.{◌-◌, arith, sym, ◌∙◌, subst, ap}
 use mathlib.Core.Option.{none}
 use Rattle.atomic_table.specs.Table.{Allows, step}
-use Rattle.td_cell.specs.Rules.{Kept, Learned, count_met, meeting}
+use Rattle.td_cell.specs.Rules.{KeepsRule, LearnsMet, count_met, met_view}
 use Rattle.td_cell.proofs.Meets.{meet_allowed, learn_allows}
 use Rattle.td_cell.proofs.Chains.{one_seen}
 use Rattle.td_cell.proofs.Counts.{meeting-within}
@@ -27,16 +27,16 @@ load-pass-requires g c =
     let b = g.B.Book in
     let tab = c.args.self.now.table.shared in
     let n = tab.table_id.slots in
-    let e = c.join_seat.ensures.2 ∙ ap (λ xs. (meeting p.seat.me.0 q.seat.me.0, xs)) p.empty in
+    let e = c.join_seat.ensures.2 ∙ ap (λ xs. (met_view p.seat.me.0 q.seat.me.0, xs)) p.empty in
     let x = one_seen p.seat.me.0.seen p.knows in
     let y = one_seen q.seat.me.0.seen q.knows in (
       c.join_seat.ensures.0 ∙ c.requires.own.0,
       omega (arith, c.args.self.now.three_words),
-      subst (λ m. Allows (Kept b.later b.size b.remembers tab.key.value) n c.join_seat.new.seat.id m 1 (λ n. n)
-          (Learned b.later b.size b.remembers (step n 1 0 0 none) m))
+      subst (λ m. Allows (KeepsRule b.later b.size b.remembers tab.key.value) n c.join_seat.new.seat.id m 1 (λ n. n)
+          (LearnsMet b.later b.size b.remembers (step n 1 0 0 none) m))
           (sym e)
           (learn_allows b.later b.size b.remembers tab.key.value g.met.B.Book.later_itself
-          (λ x y l. (g.met.B.Book.later_marks x y l).ring) n (meeting p.seat.me.0 q.seat.me.0)
+          (λ x y l. (g.met.B.Book.later_marks x y l).ring) n (met_view p.seat.me.0 q.seat.me.0)
           c.join_seat.new.seat.id c.requires.opening p.live p.rests x.0 y.0 x.1 y.1),
     )
 

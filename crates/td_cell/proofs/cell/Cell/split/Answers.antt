@@ -27,6 +27,6 @@ invariant_of-pass g c =
       rests = ap (λ m. m.0.holds) e ∙ p.rests;
       knows = rw e p.knows;
       sized = rw e p.sized;
-      quiet = ap (λ m. m.0.told) e ∙ p.quiet;
+      quiet = ap (λ m. m.0.content) e ∙ p.quiet;
       empty = ap (λ m. m.1) e ∙ p.empty;
     }

@@ -1,5 +1,5 @@
 use Rattle.std.proofs.Common.{length, ap, ◌∙◌}
-use Rattle.td_past.specs.Entries.{entries_of}
+use Rattle.td_ghost_list.specs.Entries.{entries_of}
 use Rattle.td_desk.proofs.Replaying.{counted}
 use Rattle.td_desk.proofs.book.DeskBook.done.Goals as goal
 

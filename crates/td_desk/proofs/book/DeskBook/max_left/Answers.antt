@@ -1,5 +1,5 @@
 use Rattle.std.proofs.Common.{◌<◌, List, subst, arith}
-use Rattle.td_past.specs.Entries.{entries_of}
+use Rattle.td_ghost_list.specs.Entries.{entries_of}
 use Rattle.td_desk.proofs.Kept.{counts_done}
 use Rattle.td_desk.specs.Acting.{Counts}
 use Rattle.td_desk.specs.Standings.{most}

@@ -1,7 +1,7 @@
 use Rattle.std.proofs.Common.{slice_set, sym, subst, arith}
 use Rattle.std.proofs.lemmas.List.{nil_from_length}
 use Rattle.td_group.specs.Grouping.{IsOpeningOf, SplitsOff}
-use Rattle.td_group.specs.Rows.{Front}
+use Rattle.td_group.specs.Rows.{DropsFront}
 use Rattle.td_group.proofs.Passing.{on_err, split_on, split_stops}
 use Rattle.td_group.proofs.RowLaws.{front_length, front_none, front_rows, zip_at, zip_length}
 use Rattle.td_group.proofs.group.Group.split_each.Goals as goal
@@ -54,7 +54,7 @@ loop-k-preserved c =
       out = c.in_ok-pass.ensures.split_off;
     }) in (
       h.1,
-      subst (λ ts. Front SplitsOff ts c.args.passes.now.items (slice_set c.loop-k.passes.items c.loop-k.k
+      subst (λ ts. DropsFront SplitsOff ts c.args.passes.now.items (slice_set c.loop-k.passes.items c.loop-k.k
           c.split.new.pass)) (sym c.push_reserved.ensures.items) h.0,
       omega (arith, i.2, c.push_reserved.ensures.len),
       omega (arith, i.3, c.push_reserved.ensures.capacity),

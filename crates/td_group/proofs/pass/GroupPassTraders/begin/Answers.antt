@@ -1,7 +1,7 @@
 use Rattle.std.proofs.Common.{IfOk, inl, inr, map, refl, subst}
 use Rattle.td_cdr.specs.Marks.{Later}
 use Rattle.td_trader.specs.Admitted.{AreAdmitted}
-use Rattle.td_trader.specs.Worlds.{Begun}
+use Rattle.td_trader.specs.Worlds.{BeginsQuery}
 use Rattle.td_group.specs.Seeing.{seen_by}
 use Rattle.td_group.proofs.Calls.{nothing_done}
 use Rattle.td_group.proofs.Passing.{on_err, on_ok}
@@ -9,7 +9,7 @@ use Rattle.td_group.proofs.pass.GroupPassTraders.begin.Goals as goal
 
 pub returns-in-Ok-clause-ok : goal.returns-in-Ok-clause-ok
 returns-in-Ok-clause-ok g c =
-    subst (λ x. IfOk c.begin_at.result (λ b. Begun AreAdmitted Later (map seen_by c.args.self.now.passes.items)
+    subst (λ x. IfOk c.begin_at.result (λ b. BeginsQuery AreAdmitted Later (map seen_by c.args.self.now.passes.items)
     c.args.trader x b (map seen_by c.begin_at.new.self.passes.items))) c.in-Ok.ensures c.begin_at.ensures.ok
 
 pub returns-in-Err-clause-err : goal.returns-in-Err-clause-err

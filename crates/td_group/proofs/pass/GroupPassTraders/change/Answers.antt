@@ -1,7 +1,7 @@
 use Rattle.std.proofs.Common.{IfOk, map, subst}
 use Rattle.td_cdr.specs.Marks.{Later}
 use Rattle.td_trader.specs.Admitted.{AreAdmitted}
-use Rattle.td_trader.specs.Worlds.{Changes}
+use Rattle.td_trader.specs.Worlds.{ChangesTrader}
 use Rattle.td_group.specs.Seeing.{seen_by}
 use Rattle.td_group.proofs.Calls.{changes_err, changes_ok}
 use Rattle.td_group.proofs.pass.GroupPassTraders.change.Goals as goal
@@ -14,7 +14,7 @@ unreachable-requires-in-Begun g c = c.in-Begun.ensures.turned.acts
 
 pub returns-clause-ok : goal.returns-clause-ok
 returns-clause-ok g c =
-    subst (λ x. IfOk c.in-Changed.answer (λ o. Changes AreAdmitted Later (map seen_by c.args.self.now.passes.items)
+    subst (λ x. IfOk c.in-Changed.answer (λ o. ChangesTrader AreAdmitted Later (map seen_by c.args.self.now.passes.items)
     c.args.trader x o (map seen_by c.turn.new.self.passes.items))) c.of.ensures
     (changes_ok _ _ _ c.of.result c.in-Changed.answer c.in-Changed.ensures.turned)
 

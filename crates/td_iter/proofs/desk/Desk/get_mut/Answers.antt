@@ -1,5 +1,5 @@
 use Rattle.std.proofs.Common.{◌≤◌, ℕ, length, inl, refl, sym, ap, ◌∙◌, arith}
-use Rattle.td_iter.specs.Desks.{LiveOf, item_at, place_of, placed}
+use Rattle.td_iter.specs.Desks.{LiveOf, item_at, place_of, with_live_item}
 use Rattle.td_iter.proofs.Places.{item-found, item-past}
 use Rattle.td_iter.proofs.desk.Desk.get_mut.Goals as goal
 
@@ -9,7 +9,7 @@ returns-then-place-len g c =
     let same = c.place_of-place.ensures.place
     ∙ ap (place_of c.args.trader.now c.args.number) (c.as_slice.ensures.value
     ∙ ap (λ (z : LiveOf g.row.I.Denot). z.0) c.self.view_is) in (
-      ap (λ (place : ℕ). inl (c.item_mut.result.ghost_name, placed place d)) same,
+      ap (λ (place : ℕ). inl (c.item_mut.result.ghost_name, with_live_item place d)) same,
       record {
         writes_back = tt;
         value = sym c.item_mut.ensures.value ∙ ap (λ (place : ℕ). item_at d.0 place) same

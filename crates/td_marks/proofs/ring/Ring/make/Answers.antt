@@ -2,13 +2,13 @@ use Rattle.std.proofs.Common.{◌≡◌, ◌+◌, ◌-◌, ◌<◌, ◌^◌, ◌
 use Rattle.td_cdr.specs.Marks.{Marks, remembered}
 use Rattle.td_marks.specs.Making.{is_free, next_value, made_from}
 use Rattle.td_marks.specs.declared.made.Made.{Made}
-use Rattle.td_marks.proofs.Free.{stops, goes_on, ends, told_free, made_are_free}
+use Rattle.td_marks.proofs.Free.{stops, goes_on, ends, content_free, made_are_free}
 use Rattle.td_marks.proofs.ring.Ring.make.Goals as goal
 
 pub returns-then-is_none-clause-made : goal.returns-then-is_none-clause-made
 returns-then-is_none-clause-made c =
     let free : is_free c.args.self.now c.args.stem.now c.loop-value.value ≡ true =
-    told_free c.args.self.now c.args.stem.now c.in_ok-made.made.identifier c.loop-value.value c.remembered.result true
+    content_free c.args.self.now c.args.stem.now c.in_ok-made.made.identifier c.loop-value.value c.remembered.result true
     (ap (λ (x : Made). x.identifier) c.in_ok-made.ensures)
     (c.remembered.ensures ∙ ap (remembered c.args.self.now) c.as_slice.ensures)
     (c.is_none.ensures ∙ ap not c.if-is_none.true) in
@@ -21,7 +21,7 @@ returns-then-is_none-clause-made c =
 pub loop-value-preserved : goal.loop-value-preserved
 loop-value-preserved c =
     let taken : is_free c.args.self.now c.args.stem.now c.loop-value.value ≡ false =
-    told_free c.args.self.now c.args.stem.now c.in_ok-made.made.identifier c.loop-value.value c.remembered.result false
+    content_free c.args.self.now c.args.stem.now c.in_ok-made.made.identifier c.loop-value.value c.remembered.result false
     (ap (λ (x : Made). x.identifier) c.in_ok-made.ensures)
     (c.remembered.ensures ∙ ap (remembered c.args.self.now) c.as_slice.ensures)
     (c.is_none.ensures ∙ ap not c.if-is_none.false) in (

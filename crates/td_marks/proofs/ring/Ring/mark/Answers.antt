@@ -1,6 +1,6 @@
 use Rattle.std.proofs.Common.{◌≡◌, ◌+◌, ◌≤◌, None, sym, subst, List, ℕ}
 use Rattle.td_cdr.specs.Marks.{Marks, remembered}
-use Rattle.td_marks.specs.Keeping.{most_kept, marks_of, Enters}
+use Rattle.td_marks.specs.Keeping.{most_kept, marks_of, AddsIdentifier}
 use Rattle.td_marks.proofs.Kept.{stays_tied, mark_is}
 use Rattle.td_marks.proofs.ring.Ring.mark.Goals as goal
 
@@ -15,7 +15,7 @@ invariant_of-self-2 c =
     stays_tied c.self.inside.count c.self.inside.counter c.args.counter c.self.inside.last c.keep.new.last copied
     c.self.inside.numbers.entries c.enter.new.numbers.entries c.keep.new.numbers.entries c.self.invariant
     (subst (λ (i : List ℕ). remembered marks i ≡ None) (sym c.in_ok-copied.ensures) fresh) near
-    (subst (λ (i : List ℕ). Enters c.self.inside.numbers.entries i (c.self.inside.count + 1)
+    (subst (λ (i : List ℕ). AddsIdentifier c.self.inside.numbers.entries i (c.self.inside.count + 1)
     c.enter.new.numbers.entries) (sym c.in_ok-copied.ensures) c.in_ok-enter.ensures.entered)
     c.keep.ensures.forgets c.keep.ensures.kept
 

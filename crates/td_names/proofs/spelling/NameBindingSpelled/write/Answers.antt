@@ -1,7 +1,7 @@
 use Rattle.std.proofs.Common.{[], ◌∷◌}
 use Rattle.td_cdr.proofs.Appending.{puts-then}
 use Rattle.td_cdr.specs.Sound.{ulong}
-use Rattle.td_codes.proofs.WrittenParts.{puts-added}
+use Rattle.td_typecode.proofs.WrittenParts.{puts-added}
 use Rattle.td_names.specs.Spelling.{binding_type_number, name}
 use Rattle.td_names.proofs.spelling.NameBindingSpelled.write.Goals as goal
 

@@ -1,6 +1,6 @@
 use Rattle.std.proofs.Common.{◌∙◌}
 use Rattle.td_shared_names.proofs.Passing.{meet_keeps_out, opening_met}
-use Rattle.td_shared_names.specs.Sharing.{Meets}
+use Rattle.td_shared_names.specs.Sharing.{MeetsPass}
 use Rattle.td_shared_names.proofs.shared.SharedNames.meet.Goals as goal
 
 pub meet-requires-clause-own : goal.meet-requires-clause-own
@@ -8,7 +8,7 @@ meet-requires-clause-own c = (c.requires.opening.belongs, c.requires.out.of_cell
 
 pub returns-clause-opening : goal.returns-clause-opening
 returns-clause-opening c =
-    let m : Meets c.args.pass.now c.args.ended c.meet.new.pass = record {
+    let m : MeetsPass c.args.pass.now c.args.ended c.meet.new.pass = record {
       same_cell = c.meet.ensures.own;
       opening = c.meet.ensures.opening;
       met = c.meet.ensures.met;
@@ -18,7 +18,7 @@ returns-clause-opening c =
 
 pub returns-clause-stays : goal.returns-clause-stays
 returns-clause-stays c =
-    let m : Meets c.args.pass.now c.args.ended c.meet.new.pass = record {
+    let m : MeetsPass c.args.pass.now c.args.ended c.meet.new.pass = record {
       same_cell = c.meet.ensures.own;
       opening = c.meet.ensures.opening;
       met = c.meet.ensures.met;

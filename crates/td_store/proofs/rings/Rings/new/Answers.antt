@@ -1,11 +1,11 @@
 use Rattle.std.proofs.Common.{◌≡◌, List, [], sym, subst}
 use Rattle.td_store.specs.declared.joint.Joint.{Joint}
-use Rattle.td_store.specs.Rings.{Fits, rings_are}
+use Rattle.td_store.specs.Rings.{AreRingsOf, rings_are}
 use Rattle.td_store.proofs.Growing.{fits-none}
 use Rattle.td_store.proofs.rings.Rings.new.Goals as goal
 
-fits : (js : List Joint) → js ≡ [] → Fits js (λ k. [])
-fits js e = subst (λ (z : List Joint). Fits z (λ k. [])) (sym e) fits-none
+fits : (js : List Joint) → js ≡ [] → AreRingsOf js (λ k. [])
+fits js e = subst (λ (z : List Joint). AreRingsOf z (λ k. [])) (sym e) fits-none
 
 pub invariant_of-result : goal.invariant_of-result
 invariant_of-result c = record { linked = (λ k. [], fits _ c.new.ensures.items) }

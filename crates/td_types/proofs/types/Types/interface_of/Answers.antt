@@ -1,5 +1,5 @@
 use Rattle.std.proofs.Common.{None, Some, refl}
-use Rattle.td_types.specs.Kept.{kept}
+use Rattle.td_types.specs.Kept.{entry_type}
 use Rattle.td_types.proofs.Names.{named_so}
 use Rattle.td_types.proofs.types.Types.interface_of.Goals as goal
 
@@ -11,7 +11,7 @@ returns-in_err-entry c =
 pub returns : goal.returns
 returns c =
     rw (← c.self.view_is) (
-      kept c.in_ok-entry.entry.now,
+      entry_type c.in_ok-entry.entry.now,
       named_so c.self.inside.entries c.args.name.now (Some c.in_ok-entry.entry.now) c.in_ok-entry.ensures,
       refl,
     )

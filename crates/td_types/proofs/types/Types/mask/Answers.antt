@@ -1,7 +1,7 @@
 use Rattle.std.proofs.Common.{true}
 use Rattle.std.proofs.lemmas.Result.{err_from_is_err_and}
 use Rattle.td_types.specs.Calls.{mask_type}
-use Rattle.td_types.proofs.Judging.{refused-freely, mask_told, mask_keeps}
+use Rattle.td_types.proofs.Judging.{refused-freely, mask_content, mask_keeps}
 use Rattle.td_types.proofs.types.Types.mask.Goals as goal
 
 pub returns-in_err-accepted-clause-answer : goal.returns-in_err-accepted-clause-answer
@@ -18,7 +18,7 @@ invariant_of-self c =
 
 pub returns-clause-answer : goal.returns-clause-answer
 returns-clause-answer c =
-    mask_told c.self.inside.entries c.set_mask.new.self c.self.inside.interfaces c.self.inside.last c.args.name.now
+    mask_content c.self.inside.entries c.set_mask.new.self c.self.inside.interfaces c.self.inside.last c.args.name.now
     c.args.self.now c.self.view_is (rw c.as_slice.ensures at c.set_mask.ensures)
     (c.in_ok-accepted.ensures (mask_type c.args.self.now c.args.name.now) c.judge_mask.ensures)
 

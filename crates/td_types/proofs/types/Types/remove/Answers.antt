@@ -1,6 +1,6 @@
 use Rattle.std.proofs.lemmas.Result.{err_from_is_err_and}
 use Rattle.td_types.specs.Calls.{remove_type}
-use Rattle.td_types.proofs.Judging.{refused-freely, remove_told, remove_keeps}
+use Rattle.td_types.proofs.Judging.{refused-freely, remove_content, remove_keeps}
 use Rattle.td_types.proofs.types.Types.remove.Goals as goal
 
 pub returns-in_err-accepted-clause-answer : goal.returns-in_err-accepted-clause-answer
@@ -18,7 +18,7 @@ invariant_of-self c =
 
 pub returns-clause-answer : goal.returns-clause-answer
 returns-clause-answer c =
-    remove_told c.self.inside.entries c.remove.new.self c.self.inside.interfaces c.self.inside.last c.args.name.now
+    remove_content c.self.inside.entries c.remove.new.self c.self.inside.interfaces c.self.inside.last c.args.name.now
     c.args.self.now c.self.view_is (rw c.as_slice.ensures at c.remove.ensures)
     (c.in_ok-accepted.ensures (remove_type c.args.self.now c.args.name.now) c.judge_remove.ensures)
 

@@ -1,7 +1,7 @@
 use Rattle.std.proofs.Common.{false}
 use Rattle.std.proofs.lemmas.Result.{err_from_is_err_and}
 use Rattle.td_types.specs.Calls.{unmask_type}
-use Rattle.td_types.proofs.Judging.{refused-freely, unmask_told, mask_keeps}
+use Rattle.td_types.proofs.Judging.{refused-freely, unmask_content, mask_keeps}
 use Rattle.td_types.proofs.types.Types.unmask.Goals as goal
 
 pub returns-in_err-accepted-clause-answer : goal.returns-in_err-accepted-clause-answer
@@ -18,7 +18,7 @@ invariant_of-self c =
 
 pub returns-clause-answer : goal.returns-clause-answer
 returns-clause-answer c =
-    unmask_told c.self.inside.entries c.set_mask.new.self c.self.inside.interfaces c.self.inside.last c.args.name.now
+    unmask_content c.self.inside.entries c.set_mask.new.self c.self.inside.interfaces c.self.inside.last c.args.name.now
     c.args.self.now c.self.view_is (rw c.as_slice.ensures at c.set_mask.ensures)
     (c.in_ok-accepted.ensures (unmask_type c.args.self.now c.args.name.now) c.judge_unmask.ensures)
 

@@ -1,5 +1,5 @@
 use Rattle.std.proofs.Common.{ap}
-use Rattle.td_wire.specs.InMemory.{Wired}
+use Rattle.td_wire.specs.InMemory.{WireState}
 use Rattle.td_wire.proofs.Drawing.{drawn}
 use Rattle.td_wire.proofs.mem_wire.MemWireWire.read.Goals as goal
 
@@ -10,4 +10,4 @@ returns-in-Some-clause-bytes c =
       current = c.self.inside.current;
       answers = c.self.inside.answers.items;
     })
-    _ _ _ _ _ (ap (λ (w : Wired). w.traffic) c.self.view_is) c.in-Some.ensures.gave
+    _ _ _ _ _ (ap (λ (w : WireState). w.traffic) c.self.view_is) c.in-Some.ensures.gave

@@ -1,8 +1,0 @@
-use Rattle.std.proofs.Common.{◌≡◌, ◌-◌, length}
-use Rattle.td_audit.specs.Making.{innermost}
-use Rattle.td_audit.proofs.making.innermost.Given as goal
-
--- from the call that was reached, the rest of the steps lead where all lead
-abbrev pub invariant-loop : goal.invariant-loop
-invariant-loop l =
-    innermost (length l.net.calls - l.counter) l.net.calls l.call ≡ innermost (length l.net.calls) l.net.calls l.fn.call

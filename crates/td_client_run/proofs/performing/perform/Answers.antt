@@ -1,9 +1,0 @@
-use Rattle.td_client_run.specs.Runs.{answered, failed}
-use Rattle.td_client_run.proofs.performing.perform.Goals as goal
-
-pub returns-in-Ok : goal.returns-in-Ok
-returns-in-Ok g c = answered c.in-Ok.outcome _ _ _ _ c.show-status.result c.in-Ok.ensures c.show-status.ensures
-
-pub returns-in-Err : goal.returns-in-Err
-returns-in-Err g c =
-    rw c.fault_status.ensures (failed c.in-Err.fault _ _ _ c.in-Err.ensures)

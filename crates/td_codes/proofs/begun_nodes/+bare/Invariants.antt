@@ -1,4 +1,0 @@
-use Rattle.td_codes.proofs.begun_nodes.+bare.Given as goal
-
-abbrev pub decreases-bare : goal.decreases-bare
-decreases-bare l = l.aliases

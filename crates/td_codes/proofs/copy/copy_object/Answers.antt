@@ -1,6 +1,0 @@
-use Rattle.std.proofs.Common.{ℕ, List, ap}
-use Rattle.td_codes.specs.declared.code.TypeCode.TheVariants as code
-use Rattle.td_codes.proofs.copy.copy_object.Goals as goal
-
-pub returns : goal.returns
-returns c = ap (λ (p : List ℕ × List ℕ). code.ObjRef p.0 p.1) c.in_ok-id.ensures

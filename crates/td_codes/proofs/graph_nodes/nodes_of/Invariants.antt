@@ -1,7 +1,0 @@
-use Rattle.std.proofs.Common.{◌≡◌, map, take}
-use Rattle.td_codes.specs.GraphNodes.{node_of}
-use Rattle.td_codes.specs.NodeLayers.{known_node}
-use Rattle.td_codes.proofs.graph_nodes.nodes_of.Given as goal
-
-abbrev pub invariant-loop-begun : goal.invariant-loop-begun
-invariant-loop-begun l = l.made.items ≡ map (λ b. node_of (known_node b)) (take l.begun-index l.nodes)

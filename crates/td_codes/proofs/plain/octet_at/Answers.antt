@@ -1,5 +1,0 @@
-use Rattle.std.proofs.Common.{refl}
-use Rattle.td_codes.proofs.plain.octet_at.Goals as goal
-
-pub returns : goal.returns
-returns c = rw c.in_ok-octet.ensures refl

@@ -1,4 +1,0 @@
-use Rattle.td_codes.proofs.reading.boxed_names_of.Goals as goal
-
-pub returns : goal.returns
-returns c = rw c.in_ok-new.ensures c.in_ok-names.ensures

@@ -1,7 +1,0 @@
-use Rattle.std.proofs.Common.{subst}
-use Rattle.td_gather.specs.Draining.{HasWritable, TellsWritable}
-use Rattle.td_gather.proofs.draining.join_answer.Goals as goal
-
-pub join_batch-requires-clause-writable : goal.join_batch-requires-clause-writable
-join_batch-requires-clause-writable c =
-    subst HasWritable c.in-Batch.is (subst TellsWritable c.in-Done.is c.requires.writable)

@@ -1,7 +1,0 @@
-use Rattle.td_lines.proofs.Stepping.{alone}
-use Rattle.td_lines.proofs.draft.Draft.take_alone.Goals as goal
-
-pub returns : goal.returns
-returns c =
-    alone c.args.self.now c.close.new.self c.take_part-told.new.self c.args.number c.args.part c.args.line.now
-    c.take_part-told.result c.at.result c.in_ok-close.ensures c.take_part-told.ensures c.at.ensures

@@ -1,9 +1,0 @@
-use Rattle.td_name_session.proofs.Performing.{act_performs}
-use Rattle.td_name_session.proofs.calls.perform.Goals as goal
-
-pub returns-in-Act-clause-performs : goal.returns-in-Act-clause-performs
-returns-in-Act-clause-performs g c =
-    rw c.in-Act.is
-    (act_performs g.N.Names.others c.args.key c.context_in.result c.in-Act.act c.args.w.now
-    (g.N.Names.view c.args.names.now) c.args.iterators.now c.serve_act.result c.args.w.now
-    (g.N.Names.view c.serve_act.new.names) c.context_in.ensures c.serve_act.ensures.acts)

@@ -1,0 +1,5 @@
+pub mod Draining
+pub mod Turns
+pub mod Querying
+pub mod Writing
+pub mod Examples

@@ -1,9 +1,0 @@
-use Rattle.td_reply.proofs.Nexts.{next_of_offers}
-use Rattle.td_reply.proofs.iterating.put_next.Goals as goal
-
-pub returns-in_ok-_more-in-Offers-clause-puts : goal.returns-in_ok-_more-in-Offers-clause-puts
-returns-in_ok-_more-in-Offers-clause-puts c =
-    let told = c.in_ok-_more-in-Offers.ensures in
-    rw c.in-Offers.is
-    (next_of_offers c.args.n c.in-Offers.offers c.next_n.new.self c.args.w.now c.next_n.new.w
-    c.in_ok-_more-in-Offers._more told.batch told.some)

@@ -1,8 +1,0 @@
-use Rattle.std.proofs.Common.{◌≡◌, ◌++◌, drop}
-use Rattle.td_shown.specs.Names.{limit_words}
-use Rattle.td_shown.proofs.names.put_limit_words.Given as goal
-
--- with what is left, it makes what all makes
-abbrev pub invariant-loop-limit : goal.invariant-loop-limit
-invariant-loop-limit l =
-    l.out.items ++ limit_words (drop l.limit-index l.limits) ≡ l.initial.out.items ++ limit_words l.limits

@@ -1,8 +1,0 @@
-use Rattle.std.proofs.Common.{◌≡◌, ◌++◌, drop}
-use Rattle.td_shown.specs.Names.{name_lines}
-use Rattle.td_shown.proofs.names.put_names.Given as goal
-
--- with what is left, it makes what all makes
-abbrev pub invariant-loop-name : goal.invariant-loop-name
-invariant-loop-name l =
-    l.out.items ++ name_lines (drop l.name-index l.names) ≡ l.initial.out.items ++ name_lines l.names

@@ -1,5 +1,0 @@
-use Rattle.td_turns.proofs.Owning.{alone-grows}
-use Rattle.td_turns.proofs.laws.alone_histories_grow_by_own_changes.Goals as goal
-
-pub returns : goal.returns
-returns c = alone-grows

@@ -1,5 +1,0 @@
-use Rattle.td_turns.proofs.Running.{own-searches}
-use Rattle.td_turns.proofs.laws.own_marks_are_searches.Goals as goal
-
-pub returns : goal.returns
-returns c s = own-searches _ _

@@ -1,5 +1,0 @@
-use Rattle.td_turns.proofs.Running.{queries-walk}
-use Rattle.td_turns.proofs.laws.queries_are_walks.Goals as goal
-
-pub returns : goal.returns
-returns c s = queries-walk _ _

@@ -1,5 +1,0 @@
-use Rattle.td_turns.proofs.Running.{queries-begin}
-use Rattle.td_turns.proofs.laws.queries_begin_walks.Goals as goal
-
-pub returns : goal.returns
-returns c s = queries-begin _ _

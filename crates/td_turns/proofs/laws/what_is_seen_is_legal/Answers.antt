@@ -1,5 +1,0 @@
-use Rattle.td_turns.proofs.Running.{seen-legal}
-use Rattle.td_turns.proofs.laws.what_is_seen_is_legal.Goals as goal
-
-pub returns : goal.returns
-returns c s = seen-legal _ _

@@ -1,5 +1,0 @@
-use Rattle.td_turns.proofs.Running.{words-drawn}
-use Rattle.td_turns.proofs.laws.words_are_drawn_in_order.Goals as goal
-
-pub returns : goal.returns
-returns c s = words-drawn _ _

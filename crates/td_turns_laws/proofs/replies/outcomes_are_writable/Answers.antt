@@ -1,5 +1,0 @@
-use Rattle.td_turns_laws.proofs.WritingRuns.{outcomes-writable}
-use Rattle.td_turns_laws.proofs.replies.outcomes_are_writable.Goals as goal
-
-pub returns : goal.returns
-returns g c = outcomes-writable g.T.Traders.others g.T.Traders.later g.met.T.Traders.others_admitted

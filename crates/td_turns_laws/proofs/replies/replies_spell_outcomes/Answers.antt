@@ -1,5 +1,0 @@
-use Rattle.td_turns_laws.proofs.WritingRuns.{replies-spell}
-use Rattle.td_turns_laws.proofs.replies.replies_spell_outcomes.Goals as goal
-
-pub returns : goal.returns
-returns g c = replies-spell g.T.Traders.others g.T.Traders.later g.met.T.Traders.others_admitted

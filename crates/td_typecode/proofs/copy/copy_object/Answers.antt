@@ -1,0 +1,6 @@
+use Rattle.std.proofs.Common.{ℕ, List, ap}
+use Rattle.td_typecode.specs.declared.code.TypeCode.TheVariants as code
+use Rattle.td_typecode.proofs.copy.copy_object.Goals as goal
+
+pub returns : goal.returns
+returns c = ap (λ (p : List ℕ × List ℕ). code.ObjRef p.0 p.1) c.in_ok-id.ensures

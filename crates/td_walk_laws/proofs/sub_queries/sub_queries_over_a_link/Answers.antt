@@ -1,5 +1,0 @@
-use Rattle.td_walk_laws.proofs.Passed.{over_a_link}
-use Rattle.td_walk_laws.proofs.sub_queries.sub_queries_over_a_link.Goals as goal
-
-pub returns : goal.returns
-returns c = over_a_link

@@ -1,5 +1,0 @@
-use Rattle.td_walk_laws.proofs.Proxied.{with_passed_on}
-use Rattle.td_walk_laws.proofs.sub_queries.sub_queries_with_passed_policies.Goals as goal
-
-pub returns : goal.returns
-returns c = with_passed_on
