@@ -1,5 +1,5 @@
 """Has `rt` take the sum of each crate's files once where it sums a crate, and find the crates below each once, for who
-starts it with this folder on PYTHONPATH (.ci/run and tools/build).
+starts it with this folder on PYTHONPATH (.ci/run and tools/build) or loads this file (tools/edits).
 
 A crate's sum is made of its files and of the sums of the crates that it stands on. Some kits take these anew for each
 way that leads down to a crate: for td_listen 367,158 times, reckoned at half an hour in which nothing is proved. The
