@@ -153,7 +153,8 @@ pub fn mask_type(store: &mut Store, full: bool, name: Text) -> Result<Accepted, 
 pub fn unmask_type(store: &mut Store, full: bool, name: Text) -> Result<Accepted, Fault>
     ensures accepts { AcceptsChange (change.UnmaskType name)
         (unless_full full (types_cause (types.unmask_type store.old.types name)) reply.Nothing
-        (with_types store.old (types.unmask_type store.old.types name))) store.old store.new result }
+        (with_types store.old (types.unmask_type store.old.types name))) store.old store.new
+        result }
     ensures free { NeedsNone result }
 {
     match store.types.judge_unmask(&name) {

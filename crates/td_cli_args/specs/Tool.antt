@@ -69,7 +69,8 @@ usage_app u = app_in u.name u.places u.more
 
 -- as the code has it
 abbrev pub usage_in : Told → App
-usage_in u = app_in u.name.now (map (λ w. w.id.now) u.places.now) (option_map (λ w. w.id.now) u.more)
+usage_in u =
+    app_in u.name.now (map (λ w. w.id.now) u.places.now) (option_map (λ w. w.id.now) u.more)
 
 -- ---- the whole program
 

@@ -103,7 +103,8 @@ fn read_export<'a>(
 
 /// What the matches of `withdraw` ask for.
 fn read_withdraw<'a>(matches: &ArgMatches<'a>) -> Option<Wanted<'a>>
-    ensures { option_map asked_by result ≡ read_usage withdraw_usage (rows_of (found_of matches.now)) }
+    ensures { option_map asked_by result
+        ≡ read_usage withdraw_usage (rows_of (found_of matches.now)) }
 {
     let Some(reference) = value(matches, "ref") else {
         return None;
@@ -116,7 +117,8 @@ fn read_withdraw<'a>(matches: &ArgMatches<'a>) -> Option<Wanted<'a>>
 
 /// What the matches of `describe` ask for.
 fn read_describe<'a>(matches: &ArgMatches<'a>) -> Option<Wanted<'a>>
-    ensures { option_map asked_by result ≡ read_usage describe_usage (rows_of (found_of matches.now)) }
+    ensures { option_map asked_by result
+        ≡ read_usage describe_usage (rows_of (found_of matches.now)) }
 {
     let Some(reference) = value(matches, "ref") else {
         return None;

@@ -144,7 +144,8 @@ fn put_kept<R: Wait>(
 fn note_session<J: SharedJournal>(journal: &mut J, room: &mut Room<KeptJournal>)
     requires one { length room.old.journal ≤ 1 }
     requires room { J.has_room journal.old }
-    ensures noted { J.entries journal.new ≡ J.entries journal.old ++ map noted.Session room.old.journal }
+    ensures noted { J.entries journal.new
+        ≡ J.entries journal.old ++ map noted.Session room.old.journal }
     ensures room { room.new ≡ record room.old { journal = [] } }
 {
     match room.take_entry() {

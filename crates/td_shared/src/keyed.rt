@@ -95,7 +95,8 @@ pub(crate) fn answer_keyed<'d, 's, 'j, R: Wait, J: SharedJournal>(
     ensures stays { OnErr result (sharing.old.full ≡ false
         → StaysBy sharing.new.full (knowledge sharing.old.pass.now)
         (knowledge sharing.new.pass.now)) }
-    ensures unnoted { OnErr result ((J.entries sharing.new.journal.now) ≡ (J.entries sharing.old.journal.now)) }
+    ensures unnoted { OnErr result
+        ((J.entries sharing.new.journal.now) ≡ (J.entries sharing.old.journal.now)) }
 {
     match head {
         Head::Request(request) => serve_request(alloc, sharing, replies, call, request),
@@ -121,8 +122,8 @@ fn serve_request<'d, 's, 'j, R: Wait, J: SharedJournal>(
     ensures numbers { SameNumbers (knowledge sharing.old.pass.now)
         (knowledge sharing.new.pass.now) }
     ensures serves { (c : called)
-        × NotesCall c (J.entries sharing.old.journal.now) (J.entries sharing.new.journal.now) sharing.old.full
-        sharing.new.full result
+        × NotesCall c (J.entries sharing.old.journal.now) (J.entries sharing.new.journal.now)
+        sharing.old.full sharing.new.full result
         × ServesIterator call.now.to call.now.trader.now call.now.number
         (knowledge sharing.old.pass.now)
         (asked_by (call_read (kind.Iterator call.now.number)
@@ -157,8 +158,8 @@ fn serve_locate<'d, 's, 'j, R: Wait, J: SharedJournal>(
     ensures numbers { SameNumbers (knowledge sharing.old.pass.now)
         (knowledge sharing.new.pass.now) }
     ensures locates { ((c : called)
-        × NotesCall c (J.entries sharing.old.journal.now) (J.entries sharing.new.journal.now) sharing.old.full
-        sharing.new.full result
+        × NotesCall c (J.entries sharing.old.journal.now) (J.entries sharing.new.journal.now)
+        sharing.old.full sharing.new.full result
         × LocatesIterator call.now.to call.now.trader.now call.now.number
         (knowledge sharing.old.pass.now) replies.new c (knowledge sharing.new.pass.now))
         ⊎ (IsErr result × (knowledge sharing.new.pass.now ≡ knowledge sharing.old.pass.now)

@@ -112,8 +112,8 @@ fn serve_visitor<R: Wait, J: SharedJournal, T: Traders, S: Source, K: Sink, L: W
     ensures numbers { SameNumbers (knowledge pass.old) (knowledge pass.new) }
     ensures same { T.same traders.old traders.new }
     ensures serves { SharesTraders T.others T.later home.now (T.world traders.old)
-        (W.word visitor.old.words) (knowledge pass.old) (J.entries journal.old) (T.world traders.new)
-        (knowledge pass.new) (J.entries journal.new) result
+        (W.word visitor.old.words) (knowledge pass.old) (J.entries journal.old)
+        (T.world traders.new) (knowledge pass.new) (J.entries journal.new) result
         (outside (S.left visitor.old.source) (S.faults visitor.old.source)
         (K.written visitor.old.sink) (K.faults visitor.old.sink))
         (outside (S.left visitor.new.source) (S.faults visitor.new.source)

@@ -93,17 +93,17 @@ pub fn worked_examples()
     ensures not_exact { found types usual (exactly false) device 9 ≡ 1 ∷ 2 ∷ 3 ∷ 4 ∷ 5 ∷ [] }
     ensures proxies { found types usual (proxies_used true) device 9 ≡ 1 ∷ 2 ∷ 3 ∷ 4 ∷ 5 ∷ [] }
     ensures no_proxies { found types usual (proxies_used false) device 9 ≡ 1 ∷ 2 ∷ 4 ∷ 5 ∷ [] }
-    ensures proxies_unsupported { found types (record usual { supports_proxy_offers = false }) nothing device 9
-        ≡ 1 ∷ 2 ∷ 4 ∷ 5 ∷ [] }
+    ensures proxies_unsupported { found types (record usual { supports_proxy_offers = false })
+        nothing device 9 ≡ 1 ∷ 2 ∷ 4 ∷ 5 ∷ [] }
     ensures dynamic { found types usual (dynamic_used true) device 9 ≡ 1 ∷ 2 ∷ 3 ∷ 4 ∷ 5 ∷ [] }
     ensures no_dynamic { found types usual (dynamic_used false) device 9 ≡ 1 ∷ 2 ∷ 3 ∷ 5 ∷ [] }
-    ensures dynamic_unsupported { found types (record usual { supports_dynamic_properties = false }) nothing device 9
-        ≡ 1 ∷ 2 ∷ 3 ∷ 5 ∷ [] }
+    ensures dynamic_unsupported { found types (record usual { supports_dynamic_properties = false })
+        nothing device 9 ≡ 1 ∷ 2 ∷ 3 ∷ 5 ∷ [] }
     ensures modifiable { found types usual (modifiable_used true) device 9 ≡ 1 ∷ 2 ∷ 3 ∷ 4 ∷ 5
         ∷ [] }
     ensures no_modifiable { found types usual (modifiable_used false) device 9 ≡ 1 ∷ 2 ∷ 3 ∷ [] }
-    ensures modifiable_unsupported { found types (record usual { supports_modifiable_properties = false })
-        (modifiable_used false) device 9
+    ensures modifiable_unsupported { found types
+        (record usual { supports_modifiable_properties = false }) (modifiable_used false) device 9
         ≡ 1 ∷ 2 ∷ 3 ∷ 4 ∷ 5 ∷ [] }
     ensures cut { found types usual nothing device 4 ≡ 1 ∷ 2 ∷ 3 ∷ 4 ∷ [] }
     ensures cut_when_found { found types usual (proxies_used false) printer 2 ≡ 2 ∷ 4 ∷ [] }

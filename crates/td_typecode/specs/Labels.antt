@@ -131,8 +131,8 @@ longlong_in l = None
 
 abbrev pub longlong_value : Sound ValueFault Value
 longlong_value =
-    plain_value (λ x. value.LongLong x) longlong_in (λ x. ap longlong_in (value-longlong x)) longlong
-    (λ x. ap plain_layer (value-longlong x))
+    plain_value (λ x. value.LongLong x) longlong_in (λ x. ap longlong_in (value-longlong x))
+    longlong (λ x. ap plain_layer (value-longlong x))
 
 abbrev pub ulonglong_in : ValueLayer → Option ℕ
 ulonglong_in (c.Value::ULongLong x) = Some x
@@ -140,8 +140,8 @@ ulonglong_in l = None
 
 abbrev pub ulonglong_value : Sound ValueFault Value
 ulonglong_value =
-    plain_value (λ x. value.ULongLong x) ulonglong_in (λ x. ap ulonglong_in (value-ulonglong x)) (number 8)
-    (λ x. ap plain_layer (value-ulonglong x))
+    plain_value (λ x. value.ULongLong x) ulonglong_in (λ x. ap ulonglong_in (value-ulonglong x))
+    (number 8) (λ x. ap plain_layer (value-ulonglong x))
 
 abbrev pub boolean_in : ValueLayer → Option Bool
 boolean_in (c.Value::Boolean x) = Some x

@@ -133,7 +133,8 @@ node_layer g p = layer_in (switch_in g p) (kind_of_number p.kind) p
 
 -- the arms of a union's node, under a discriminator of a kind
 abbrev pub arms_in : CodeKind → Node → List ArmNode
-arms_in switch p = arms_of switch (behind_first p.numbers) (behind_first p.names) (behind_first p.edges)
+arms_in switch p =
+    arms_of switch (behind_first p.numbers) (behind_first p.names) (behind_first p.edges)
 
 -- as many as labels, names behind its own and edges behind the discriminator's
 abbrev pub arm_total : Node → ℕ
@@ -170,7 +171,8 @@ indirection_placed j = and_then (plainly ((number 4).writes indirection)) (long_
 
 -- a node of a graph, spelled
 abbrev pub node_placed : (ℕ → PlacedPiece) → List Node → Node → PlacedPiece
-node_placed inner g p = and_then (kind_placed (kind_of_number p.kind)) (layer_placed inner (node_layer g p))
+node_placed inner g p =
+    and_then (kind_placed (kind_of_number p.kind)) (layer_placed inner (node_layer g p))
 
 -- a node, or an indirection
 abbrev pub node_or_indirection : (ℕ → PlacedPiece) → ℕ → Option KnownNode → PlacedPiece
