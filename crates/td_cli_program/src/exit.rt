@@ -44,7 +44,7 @@ pub fn start<R: Env + Net + Clock + AllocGlobal, O: Write + Drop, E: Write + Dro
     let mut faults = StdSink::new(errors);
     let words = match words(rt) {
         Ok(words) => words,
-        Err(e) => return ExitCode::from(refuse_words(&mut faults, wants_memory(&e))),
+        Err(e) => return ExitCode::from(refuse_words(&mut faults, is_out_of_memory(&e))),
     };
     let mut wire = TcpWire::new(rt);
     let mut sink = StdSink::new(output);
@@ -66,18 +66,18 @@ fn words<R: Env + AllocGlobal>(rt: &R) -> io::Result<Vec<String>> {
     Ok(words)
 }
 
-/// Whether it was when out of memory that the words can't be had. Else one isn't text, so that it isn't in its form.
-fn wants_memory(e: &io::Error) -> bool {
+/// Whether memory ran out when the words were asked for. Else one isn't text, so that it isn't in its form.
+fn is_out_of_memory(e: &io::Error) -> bool {
     e.kind() == ErrorKind::OutOfMemory
 }
 
 /// What is done where the words can't be had.
-fn refuse_words<E: Sink>(faults: &mut E, wants_memory: bool) -> u8
-    ensures { MatchBool wants_memory (result ≡ 9) ((result ≡ 2)
+fn refuse_words<E: Sink>(faults: &mut E, is_out_of_memory: bool) -> u8
+    ensures { MatchBool is_out_of_memory (result ≡ 9) ((result ≡ 2)
         × GivesText (codes "usage\n") (E.written faults.old) (E.written faults.new)
         (E.faults faults.old) (E.faults faults.new)) }
 {
-    if wants_memory {
+    if is_out_of_memory {
         return 9;
     }
     let _ = write_all(faults, b"usage\n");

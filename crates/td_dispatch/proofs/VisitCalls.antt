@@ -7,7 +7,7 @@ use Rattle.td_lookup.specs.Naming.{NameComes}
 use Rattle.td_lookup.specs.Querying.{QueryComes}
 use Rattle.td_lookup.specs.Scenes.{Scene}
 use Rattle.td_lookup.specs.Answering.{IfOutcome, AnswersName, AnswersQuery, GivesNoMemory, no_memory_entry}
-use Rattle.td_lookup.specs.Answering.{wants_memory}
+use Rattle.td_lookup.specs.Answering.{is_no_memory}
 use Rattle.td_lookup.specs.NoMemory.{AnswersNoMemory, no_memory_outcome}
 use Rattle.td_ops.specs.declared.call.Call.TheVariants as call
 use Rattle.td_ops.specs.declared.call.Query.{Query}
@@ -78,7 +78,7 @@ module _ (others : List Accepted → Type 0) (later : Marks → Marks → Type 0
         → Invokes others later home (Call x (call.Resolve names)) x.trader draft s a.body a.entry written t
     names_perform names draft written a within (inl h) back =
         plain_invokes others later home (Call x (call.Resolve names)) x.trader s t
-        (λ o e. NameComes others later home s x.trader names o e t × (wants_memory o ≡ false)) a draft written h
+        (λ o e. NameComes others later home s x.trader names o e t × (is_no_memory o ≡ false)) a draft written h
         (inl h.comes.0)
         (long_all a.body (MayBeRefused others later home (Call x (call.Resolve names)) x.trader s a.entry t)
         (refused_within (Call x (call.Resolve names)) a.entry (no_memory_entry t.world x.trader a.entry) within refl back))

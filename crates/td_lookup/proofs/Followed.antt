@@ -13,7 +13,7 @@ use Rattle.td_fed.specs.declared.resolving.NameAnswer.{NameAnswer}
 use Rattle.td_lookup.specs.Naming.{name_entry}
 use Rattle.td_lookup.specs.Scenes.{Scene}
 use Rattle.td_lookup.specs.Answering.{AnswersName, GivesNoMemory, no_memory_entry, name_answer, no_memory_with}
-use Rattle.td_lookup.specs.Answering.{wants_memory}
+use Rattle.td_lookup.specs.Answering.{is_no_memory}
 use Rattle.td_lookup.specs.NoMemory.{NoMemoryEntry, gave_in, items_of, no_memory_outcome}
 use Rattle.td_lookup.specs.NoMemory.{name as of_name, nothing as of_nothing}
 use Rattle.td_ops.specs.declared.call.Call.TheVariants as call
@@ -129,7 +129,7 @@ module _ (others : List Accepted → Type 0) (later : Marks → Marks → Type 0
     words = λ h. words;
   }
 
-  content_by : (a : NameAnswer) (b : Bool) → wants_memory a.outcome ≡ b
+  content_by : (a : NameAnswer) (b : Bool) → is_no_memory a.outcome ≡ b
       → Resolves others later home s.world s.peers.calls k names a t.world t.peers.calls
       → AnswersName others later home x s k names
       (if b then no_memory_with (no_memory_entry t.world k (name_entry k a.point a.asked))
@@ -163,7 +163,7 @@ module _ (others : List Accepted → Type 0) (later : Marks → Marks → Type 0
       → AnswersName others later home x s k names y t
   name_answered a y is r =
       subst (λ (z : Answer). AnswersName others later home x s k names z t) (sym is)
-      (content_by a (wants_memory a.outcome) refl r)
+      (content_by a (is_no_memory a.outcome) refl r)
 
   back_by : (a : NameAnswer) (b : Bool) → Gave a.asked s.peers.calls t.peers.calls
       → GivesNoMemory others later home (Call x (call.Resolve names)) s (no_memory_entry t.world k
@@ -180,7 +180,7 @@ module _ (others : List Accepted → Type 0) (later : Marks → Marks → Type 0
   name_back a y is r =
       subst (λ (z : Answer). GivesNoMemory others later home (Call x (call.Resolve names)) s (no_memory_entry t.world k z.entry) t)
       (sym is)
-      (back_by a (wants_memory a.outcome)
+      (back_by a (is_no_memory a.outcome)
       (resolves_gave others later home s.world s.peers.calls k names a t.world t.peers.calls r))
 
   -- memory ran out before a peer gave anything

@@ -103,14 +103,14 @@ no_memory_entry w k (Walk t) = Walk t
 
 -- ---- names
 
-abbrev pub wants_memory : Outcome → Bool
-wants_memory (System NoMemory minor completion) = true
-wants_memory other = false
+abbrev pub is_no_memory : Outcome → Bool
+is_no_memory (System NoMemory minor completion) = true
+is_no_memory other = false
 
 -- what names are answered with; when memory ran out for what a register outside gave, that is noted all the same
 abbrev pub name_answer : List View → (k : ℕ) → NameAnswer → Answer
 name_answer w k a =
-    if wants_memory a.outcome
+    if is_no_memory a.outcome
     then no_memory_with (no_memory_entry w k (name_entry k a.point a.asked))
     else record { body = reply_body.Outcome a.outcome; entry = name_entry k a.point a.asked }
 
@@ -133,7 +133,7 @@ module _ (others : List Accepted → Type 0) (later : Marks → Marks → Type 0
   abbrev pub AnswersName : Address → Object → Scene → (k : ℕ) → (names : List (List ℕ)) → Answer
       → Scene → Type 0
   AnswersName home x s k names a t =
-      AnswersPlainly (λ o e. NameComes others later home s k names o e t × (wants_memory o ≡ false))
+      AnswersPlainly (λ o e. NameComes others later home s k names o e t × (is_no_memory o ≡ false))
       a
       ⊎ AnswersPlainly (λ o e. AnswersNoMemory others later home (Call x (call.Resolve names)) s o e
       t) a

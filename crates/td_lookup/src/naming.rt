@@ -10,7 +10,7 @@ ghost use Rattle.td_servant.specs.Linking.{peers_seen};
 ghost use Rattle.td_servant.specs.declared.judging.Judged.TheVariants.{Call};
 ghost use Rattle.td_servant.specs.declared.objects.Object.{Object};
 
-use crate::no_memory::{entry_at_no_memory, no_memory_with, wants_memory};
+use crate::no_memory::{entry_at_no_memory, is_no_memory, no_memory_with};
 use std::alloc::Global;
 use td_cdr::{List, Text};
 use td_fed::{NameAnswer, resolve};
@@ -77,7 +77,7 @@ fn tell_name<T: Traders>(traders: &T, trader: usize, answer: NameAnswer) -> Answ
         outcome,
     } = answer;
     let entry = name_entry(trader, point, asked);
-    if wants_memory(&outcome) {
+    if is_no_memory(&outcome) {
         drop(outcome);
         no_memory_with(entry_at_no_memory(traders, trader, entry))
     } else {

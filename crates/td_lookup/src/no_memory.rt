@@ -2,7 +2,7 @@
 
 ghost use Rattle.std.specs.Prelude.{◌≡◌, ◌<◌, length, if◌then◌else◌};
 ghost use Rattle.std.specs.List.{list_any};
-ghost use Rattle.td_lookup.specs.Answering.{no_memory_entry, no_memory_with, wants_memory};
+ghost use Rattle.td_lookup.specs.Answering.{is_no_memory, no_memory_entry, no_memory_with};
 ghost use Rattle.td_lookup.specs.NoMemory.{completion_of, is_search, no_memory_outcome};
 
 use td_ops::{COMPLETED_MAYBE, COMPLETED_NO, Outcome, SystemKind};
@@ -95,8 +95,8 @@ pub fn entry_at_no_memory<T: Traders>(traders: &T, trader: usize, entry: Entry) 
 }
 
 /// Whether an outcome is NO_MEMORY.
-pub(crate) fn wants_memory(outcome: &Outcome) -> bool
-    ensures { result ≡ wants_memory outcome.now }
+pub(crate) fn is_no_memory(outcome: &Outcome) -> bool
+    ensures { result ≡ is_no_memory outcome.now }
 {
     match outcome {
         Outcome::Done(_) => false,

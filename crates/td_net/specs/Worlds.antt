@@ -404,7 +404,7 @@ wants (Err NoCall) = false
 wants (Err WrongState) = false
 wants (Err Memory) = true
 
--- After an event that ran out of memory every event wants it, and changes nothing.
+-- After an event that ran out of memory every event does, and changes nothing.
 abbrev pub OnBy : (no_memory_outcome : Bool) → World → EventResult → Result Unit NetFault → World
     → Type 0
 OnBy true w t r u = (r ≡ Err Memory) × (u ≡ w)

@@ -5,7 +5,7 @@ use Rattle.td_cdr.specs.Writing.{Draft}
 use Rattle.td_fed.specs.Trails.{DrawsOn, NeverFalls, own_at, own_marks_at}
 use Rattle.td_lookup.specs.Querying.{QueryComes}
 use Rattle.td_lookup.specs.Scenes.{Scene}
-use Rattle.td_lookup.specs.Answering.{wants_memory}
+use Rattle.td_lookup.specs.Answering.{is_no_memory}
 use Rattle.td_lookup.specs.NoMemory.{PeersGive, gave_in}
 use Rattle.td_ops.specs.declared.call.Call.TheVariants as call
 use Rattle.td_ops.specs.declared.call.Query.{Query}
@@ -34,11 +34,11 @@ module _ (others : List Accepted → Type 0) (later : Marks → Marks → Type 0
     pub refusal : (n : ServedRequest) → t.request ≡ Some n → is_refusal n.outcome ≡ true
         → KeepsAll others later s t.after
     -- NO_MEMORY changes nothing, but that a query may have made the marks that its trace shows
-    pub no_memory : (n : ServedRequest) → t.request ≡ Some n → wants_memory n.outcome ≡ true
+    pub no_memory : (n : ServedRequest) → t.request ≡ Some n → is_no_memory n.outcome ≡ true
         → KeepsIterators others later s (λ k. marks_in k n.entry) t.after
     -- a query that is answered otherwise is answered with what a walk from its trader on comes to, which is noted
     pub walk : (n : ServedRequest) (x : Object) (q : Query) → t.request ≡ Some n
-        → n.judged ≡ Call x (call.Query q) → wants_memory n.outcome ≡ false
+        → n.judged ≡ Call x (call.Query q) → is_no_memory n.outcome ≡ false
         → (draft : Draft) × QueryComes others later home s x.trader q draft n.outcome n.entry
         t.after
 

@@ -15,7 +15,7 @@ use Rattle.td_iter.specs.declared.item.Item.{Item}
 use Rattle.td_lookup.specs.Naming.{NameComes, name_entry}
 use Rattle.td_lookup.specs.Querying.{QueryComes, AnswersVisit}
 use Rattle.td_lookup.specs.Scenes.{Scene}
-use Rattle.td_lookup.specs.Answering.{wants_memory}
+use Rattle.td_lookup.specs.Answering.{is_no_memory}
 use Rattle.td_ops.specs.declared.call.AddLink.{AddLink}
 use Rattle.td_ops.specs.declared.call.Call.TheVariants as call
 use Rattle.td_ops.specs.declared.call.Call.{Call as Asking}
@@ -69,15 +69,15 @@ second-not false true e = absurd (true≢false (sym e))
 second-not false false e = refl
 
 pub refusal-not_done : (o : Outcome) → is_refusal o ≡ true → is_done o ≡ false
-refusal-not_done o e = first-not (is_done o) (wants_memory o) e
+refusal-not_done o e = first-not (is_done o) (is_no_memory o) e
 
-pub no_memory_outcome-not_done : (o : Outcome) → wants_memory o ≡ true → is_done o ≡ false
+pub no_memory_outcome-not_done : (o : Outcome) → is_no_memory o ≡ true → is_done o ≡ false
 no_memory_outcome-not_done (Done content) e = absurd (true≢false (sym e))
 no_memory_outcome-not_done (User x) e = refl
 no_memory_outcome-not_done (System kind minor completion) e = refl
 
-refusal-or-no_memory_outcome : (o : Outcome) → is_refusal o ≡ true → wants_memory o ≡ true → ⊥
-refusal-or-no_memory_outcome o e wants = true≢false (sym wants ∙ second-not (is_done o) (wants_memory o) e)
+refusal-or-no_memory_outcome : (o : Outcome) → is_refusal o ≡ true → is_no_memory o ≡ true → ⊥
+refusal-or-no_memory_outcome o e wants = true≢false (sym wants ∙ second-not (is_done o) (is_no_memory o) e)
 
 -- ---- what it leaves
 
@@ -274,10 +274,10 @@ module _ (others : List Accepted → Type 0) (later : Marks → Marks → Type 0
         desk = still.desk;
       }
   refused-keeps j draft s t o e d (inr h) refusal =
-      absurd (refusal-or-no_memory_outcome o refusal (ap wants_memory h.outcome))
+      absurd (refusal-or-no_memory_outcome o refusal (ap is_no_memory h.outcome))
 
   pub no_memory_outcome-keeps : (j : Judged) (draft : Draft) (s t : Scene) (o : Outcome) (e : Entry) → Does j o e s t
-      → AnswersRequest others later home j draft s o e t → wants_memory o ≡ true
+      → AnswersRequest others later home j draft s o e t → is_no_memory o ≡ true
       → KeepsIterators others later s (λ k. marks_in k e) t
   no_memory_outcome-keeps j draft s t o e d (inl h) wants =
       let other = no_memory_outcome-not_done o wants in

@@ -9,7 +9,7 @@ use Rattle.td_fed.proofs.Rising.{flat-append}
 use Rattle.td_fed.specs.Trails.{DrawsOn}
 use Rattle.td_lookup.specs.Querying.{QueryComes}
 use Rattle.td_lookup.specs.Scenes.{Scene}
-use Rattle.td_lookup.specs.Answering.{wants_memory}
+use Rattle.td_lookup.specs.Answering.{is_no_memory}
 use Rattle.td_lookup.specs.NoMemory.{PeersGive, IsWalkSoFar, gave_in}
 use Rattle.td_ops.specs.declared.call.Call.TheVariants as call
 use Rattle.td_ops.specs.declared.call.Query.{Query}
@@ -121,7 +121,7 @@ module _ (others : List Accepted → Type 0) (later : Marks → Marks → Type 0
     served : Does n.judged n.outcome n.entry s t
     stands : is_accepted n ≡ true → StandsHere t.world n.judged n.outcome n.entry
     refused : is_refusal n.outcome ≡ true → KeepsAll others later s t
-    no_memory_outcome : wants_memory n.outcome ≡ true → KeepsIterators others later s (λ k. marks_in k n.entry) t
+    no_memory_outcome : is_no_memory n.outcome ≡ true → KeepsIterators others later s (λ k. marks_in k n.entry) t
 
   same-noted : (o : Option ServedRequest) (n m : ServedRequest) → o ≡ Some n → o ≡ Some m → n ≡ m
   same-noted o n m a b = let same : Some n ≡ Some m = sym a ∙ b in cc
@@ -159,22 +159,22 @@ module _ (others : List Accepted → Type 0) (later : Marks → Marks → Type 0
 
   query-walks : (j : Judged) (draft : Draft) (s t : Scene) (o : Outcome) (e : Entry)
       → AnswersRequest others later home j draft s o e t → (x : Object) (q : Query) → j ≡ Call x (call.Query q)
-      → wants_memory o ≡ false → Walked s x.trader q o e t
+      → is_no_memory o ≡ false → Walked s x.trader q o e t
   query-walks j draft s t o e h x q is content =
       by-answer (subst (λ (y : Judged). AnswersRequest others later home y draft s o e t) is h)
     where
       by-answer : AnswersRequest others later home (Call x (call.Query q)) draft s o e t → Walked s x.trader q o e t
       by-answer (inl a) = (draft, a)
-      by-answer (inr a) = absurd (true≢false (sym (ap wants_memory a.outcome) ∙ content))
+      by-answer (inr a) = absurd (true≢false (sym (ap is_no_memory a.outcome) ∙ content))
 
   turn-walks : (s : Scene) (t : Turn) (n : ServedRequest) (x : Object) (q : Query) → IsTurn others later home s t
-      → t.request ≡ Some n → n.judged ≡ Call x (call.Query q) → wants_memory n.outcome ≡ false
+      → t.request ≡ Some n → n.judged ≡ Call x (call.Query q) → is_no_memory n.outcome ≡ false
       → Walked s x.trader q n.outcome n.entry t.after
   turn-walks s t n x q (request h) is asks content =
       let same : h.noted ≡ n = same-noted t.request h.noted n h.request is in
       subst (λ (m : ServedRequest). Walked s x.trader q m.outcome m.entry t.after) same
       (query-walks h.noted.judged h.served.draft s t.after h.noted.outcome h.noted.entry h.served.answers x q
-      (ap (λ (m : ServedRequest). m.judged) same ∙ asks) (ap (λ (m : ServedRequest). wants_memory m.outcome) same ∙ content))
+      (ap (λ (m : ServedRequest). m.judged) same ∙ asks) (ap (λ (m : ServedRequest). is_no_memory m.outcome) same ∙ content))
   turn-walks s t n x q (locate h) is asks content =
       absurd (let bad : ◌≡◌ {A = Option ServedRequest} None (Some n) = sym h.request ∙ is in cc)
   turn-walks s t n x q (cancel h) is asks content =

@@ -5,7 +5,7 @@ use Rattle.std.specs.List.{flat_map}
 use Rattle.td_changes.specs.Histories.{is_done}
 use Rattle.td_typecode.specs.declared.reference.Ior.{Ior}
 use Rattle.td_fed.specs.Trails.{marks_of, only_of, points_of}
-use Rattle.td_lookup.specs.Answering.{wants_memory}
+use Rattle.td_lookup.specs.Answering.{is_no_memory}
 use Rattle.td_lookup.specs.NoMemory.{gave_in, items_of}
 use Rattle.td_ops.specs.declared.call.AddLink.{AddLink}
 use Rattle.td_ops.specs.declared.call.Call.TheVariants as call
@@ -34,7 +34,7 @@ points_in k (Walk t) = points_of k t.items
 
 -- an exception that isn't NO_MEMORY
 abbrev pub is_refusal : Outcome → Bool
-is_refusal o = not (is_done o) && not (wants_memory o)
+is_refusal o = not (is_done o) && not (is_no_memory o)
 
 -- ---- points of Requests
 

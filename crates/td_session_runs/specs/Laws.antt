@@ -8,7 +8,7 @@ use Rattle.td_fed.specs.Trails.{DrawsOn, Goes, NeverFalls, own_at, own_marks_at}
 use Rattle.td_fed.specs.Visiting.{WalksSoFar, course}
 use Rattle.td_lookup.specs.Querying.{QueryComes}
 use Rattle.td_lookup.specs.Scenes.{Scene}
-use Rattle.td_lookup.specs.Answering.{wants_memory}
+use Rattle.td_lookup.specs.Answering.{is_no_memory}
 use Rattle.td_lookup.specs.NoMemory.{PeersGive, gave_in, items_of}
 use Rattle.td_ops.specs.declared.call.Call.TheVariants as call
 use Rattle.td_ops.specs.declared.call.Change.{Change}
@@ -126,7 +126,7 @@ module _ (others : List Accepted → Type 0) (later : Marks → Marks → Type 0
   NoMemoryChangesNothing =
       (home : Address) (s : Scene) (t : Turn) (n : ServedRequest) → IsTurn others later home s t
       → t.request ≡ Some n
-      → wants_memory n.outcome ≡ true → KeepsIterators s (λ k. marks_in k n.entry) t.after
+      → is_no_memory n.outcome ≡ true → KeepsIterators s (λ k. marks_in k n.entry) t.after
 
   -- a query that is answered otherwise than with NO_MEMORY is answered with what a walk from its trader on comes to,
   -- and this walk is noted
@@ -134,7 +134,7 @@ module _ (others : List Accepted → Type 0) (later : Marks → Marks → Type 0
   QueriesAreWalks =
       (home : Address) (s : Scene) (t : Turn) (n : ServedRequest) (x : Object) (q : Query)
       → IsTurn others later home s t
-      → t.request ≡ Some n → n.judged ≡ Call x (call.Query q) → wants_memory n.outcome ≡ false
+      → t.request ≡ Some n → n.judged ≡ Call x (call.Query q) → is_no_memory n.outcome ≡ false
       → (draft : Draft) × QueryComes others later home s x.trader q draft n.outcome n.entry t.after
 
   -- a query is noted with the beginning of a walk from its trader on, whatever it is answered with

@@ -25,7 +25,7 @@ ends_by true end = end
 
 -- The messages were served one after the other, each where the one before has left everything; they are cut out of the
 -- bytes that were taken, and their answers were given. Where the desk was full behind them, it was tried for one more,
--- which the stream knows as running out of memory.
+-- where the stream is told that memory ran out.
 pub record ServesSharing (others : List Accepted → Type 0) (later : Marks → Marks → Type 0)
     (s u : SharedStage) (end : End) (before after : Outside) : Type 0 where
   pub full : Bool

@@ -129,7 +129,7 @@ fn keeps_none<R: Wait>(rt: &R, alloc: Global) -> Result<bool, Fail> {
 }
 
 #[test]
-fn a_query_that_wants_memory_keeps_no_iterator(rt: HostRuntime) -> Result<(), Fail> {
+fn a_query_that_runs_out_of_memory_keeps_no_iterator(rt: HostRuntime) -> Result<(), Fail> {
     assert!(rt; keeps_none(&rt, rt.alloc())?);
     Ok(())
 }

@@ -18,7 +18,7 @@ IsJudged comes name (HasSubTypes sub) = comes ≡ refuse (fault.HasSubTypes name
 IsJudged comes name AlreadyMasked = comes ≡ refuse (fault.AlreadyMasked name)
 IsJudged comes name NotMasked = comes ≡ refuse (fault.NotMasked name)
 
--- the call is refused so, or memory ran out, which is wanted for a refusal alone
+-- the call is refused so, or memory ran out, as it may for a refusal alone
 abbrev pub IsRefusal : RepositoryResult → TypesFault → Type 0
 IsRefusal comes (User f) = comes ≡ refuse f
 IsRefusal comes Full = ⊥

@@ -23,7 +23,7 @@ find_entry entries name =
     if word_name name then entry_or_unknown (entry_named entries name) name else Err
     (fault.IllegalServiceType name)
 
--- refused for this cause, or when out of memory, which is wanted for a refusal alone
+-- refused for this cause, or memory ran out, as it may for a refusal alone
 abbrev pub IsRefusedCall : {X : Type 0} → Result X RepoFault → TypesFault → Type 0
 IsRefusedCall comes (User f) = comes ≡ Err f
 IsRefusedCall comes Full = ⊥
