@@ -11,7 +11,7 @@ use Rattle.td_naming.specs.declared.history.NameChange.{NameChange}
 use Rattle.td_server.specs.Kinds.{ServerKind}
 use Rattle.td_server.specs.Sessions.{SessionStart as BegunOf, SessionResult as EndedOf, HandsSome as HandsSomeOf}
 use Rattle.td_server.specs.Sessions.{WordsBySeeding as SeededWords, ServesSession as ServingOf, ServerState as StandOf}
-use Rattle.td_server.specs.Sessions.{HandedSessions as ToldOf}
+use Rattle.td_server.specs.Sessions.{HandedSessions as HandedOf}
 use Rattle.td_shared_names.specs.Acting.{ExtendsPast, size_of}
 use Rattle.td_shared_names.specs.Seeing.{any_changes}
 use Rattle.td_stream.specs.Outside.{Outside}
@@ -90,7 +90,7 @@ WordsBySeeding = SeededWords
 
 -- the sessions that were handed on, in order, and the contexts, once they were
 abbrev pub HandedSessions : Type 0 → Type 0
-HandedSessions X = ToldOf naming X
+HandedSessions X = HandedOf naming X
 
 -- these sessions were handed on, and no contexts
 abbrev pub HandsSome : {X : Type 0} → (content after : Option (HandedSessions X)) → Type 0

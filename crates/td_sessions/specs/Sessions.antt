@@ -12,7 +12,7 @@ use Rattle.td_server.specs.Kinds.{ServerKind}
 use Rattle.td_server.specs.Rows.{Rows}
 use Rattle.td_server.specs.Sessions.{SessionStart as BegunOf, SessionResult as EndedOf, HandsSome as HandsSomeOf}
 use Rattle.td_server.specs.Sessions.{WordsBySeeding as SeededWords, ServesSession as ServingOf, ServerState as StandOf}
-use Rattle.td_server.specs.Sessions.{HandedSessions as ToldOf}
+use Rattle.td_server.specs.Sessions.{HandedSessions as HandedOf}
 use Rattle.td_stream.specs.declared.end.End.{End}
 use Rattle.td_stream.specs.Outside.{Outside}
 use Rattle.td_session.specs.Sessions.{Serves}
@@ -104,7 +104,7 @@ WordsBySeeding = SeededWords
 
 -- the sessions that were handed on, in order, and the traders, once they were
 abbrev pub HandedSessions : Type 0 → Type 0
-HandedSessions X = ToldOf trading X
+HandedSessions X = HandedOf trading X
 
 -- these sessions were handed on, and no traders
 abbrev pub HandsSome : {X : Type 0} → (content after : Option (HandedSessions X)) → Type 0
