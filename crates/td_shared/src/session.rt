@@ -63,68 +63,7 @@ pub fn serve_shared<R: Wait, J: SharedJournal, T: Traders, S: Source, K: Sink, P
         (outside (S.left source.new) (S.faults source.new) (K.written sink.new)
         (K.faults sink.new)) }
 {
-    let Ok(mut room) = room_at(alloc, home) else {
-        return End::Memory;
-    };
-    let end = serve_in(
-        rt, alloc, traders, desk, pass, &mut room, journal, source, sink, peers, words,
-    );
-    drop(room);
-    end
-}
-
-/// A room for a session with the traders that are reached at this address.
-fn room_at(alloc: Global, home: &Address) -> Result<Room<KeptJournal>, Memory>
-    requires { IsAddress home.now }
-    ensures new { IfOk result (λ room. IsNew room) }
-    ensures home { IfOk result (λ room. room.home ≡ home.now) }
-{
-    let host = home.host.copy(alloc)?;
-    Room::new(
-        alloc,
-        Address {
-            host,
-            port: home.port,
-            minor: home.minor,
-        },
-    )
-}
-
-/// The same in a new room.
-fn serve_in<R: Wait, J: SharedJournal, T: Traders, S: Source, K: Sink, P: Peers, W: Words>(
-    rt: &R,
-    alloc: Global,
-    traders: &mut T,
-    desk: &SharedDesk,
-    pass: &mut DeskPass,
-    room: &mut Room<KeptJournal>,
-    journal: &mut J,
-    source: &mut S,
-    sink: &mut K,
-    peers: &mut P,
-    words: &mut W,
-) -> End
-    requires own { Belongs pass.old desk.now.cell }
-    requires order { InOrder (knowledge pass.old) }
-    requires new { IsNew room.old }
-    ensures own { SameCell pass.new pass.old }
-    ensures numbers { SameNumbers (knowledge pass.old) (knowledge pass.new) }
-    ensures order { InOrder (knowledge pass.new) }
-    ensures same { T.same traders.old traders.new }
-    ensures same_peers { P.same peers.old peers.new }
-    ensures same_words { W.same words.old words.new }
-    ensures serves { ServesSharing T.others T.later
-        (shared_in (backend_seen (T.world traders.old)
-        (peers_seen (P.calls peers.old) (P.faults peers.old)) (W.word words.old)) room.old
-        (knowledge pass.old) (J.entries journal.old))
-        (shared_in (backend_seen (T.world traders.new)
-        (peers_seen (P.calls peers.new) (P.faults peers.new)) (W.word words.new)) room.new
-        (knowledge pass.new) (J.entries journal.new)) result
-        (outside (S.left source.old) (S.faults source.old) (K.written sink.old) (K.faults sink.old))
-        (outside (S.left source.new) (S.faults source.new) (K.written sink.new)
-        (K.faults sink.new)) }
-{
-    let Ok(replies) = Replies::new(alloc) else {
+    let Ok((mut room, replies)) = rooms_at(alloc, home) else {
         return End::Memory;
     };
     let sharing = Sharing {
@@ -136,7 +75,7 @@ fn serve_in<R: Wait, J: SharedJournal, T: Traders, S: Source, K: Sink, P: Peers,
     };
     let other = TraderServant {
         traders,
-        room,
+        room: &mut room,
         peers,
         words,
     };
@@ -147,6 +86,7 @@ fn serve_in<R: Wait, J: SharedJournal, T: Traders, S: Source, K: Sink, P: Peers,
         keyed: false,
     };
     let end = serve_lent(alloc, &mut servant, source, sink);
+    // What is owned is dropped by name: dropped at the end, it would leave unproved what was given back.
     let SharedServant {
         sharing,
         other,
@@ -157,17 +97,35 @@ fn serve_in<R: Wait, J: SharedJournal, T: Traders, S: Source, K: Sink, P: Peers,
     let Sharing { pass, journal, .. } = sharing;
     let TraderServant {
         traders,
-        room,
+        room: lent,
         peers,
         words,
     } = other;
     give_back(traders);
     give_back(pass);
-    give_back(room);
+    give_back(lent);
     give_back(journal);
     give_back(peers);
     give_back(words);
+    drop(room);
     end
+}
+
+/// A room for a session with the traders that are reached at this address, and one for its replies to messages for
+/// iterators.
+fn rooms_at(alloc: Global, home: &Address) -> Result<(Room<KeptJournal>, Replies), Memory>
+    requires { IsAddress home.now }
+    ensures new { IfOk result (λ r. IsNew r.0) }
+    ensures home { IfOk result (λ r. r.0.home ≡ home.now) }
+{
+    let host = home.host.copy(alloc)?;
+    let address = Address {
+        host,
+        port: home.port,
+        minor: home.minor,
+    };
+    let room = Room::new(alloc, address)?;
+    Ok((room, Replies::new(alloc)?))
 }
 
 /// The same, of what is lent, where the desk isn't known to be full.

@@ -1,5 +1,0 @@
-use Rattle.td_shared.proofs.Streaming.{shares_none}
-use Rattle.td_shared.proofs.session.serve_in.Goals as goal
-
-pub returns-in_default-clause-serves : goal.returns-in_default-clause-serves
-returns-in_default-clause-serves g c = shares_none g.T.Traders.others g.T.Traders.later _ _ _ _ _
